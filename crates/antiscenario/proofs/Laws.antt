@@ -1,0 +1,108 @@
+-- Rows stored one after another, and the steps of the code.
+-- Assumes nothing.
+use mathlib.Core.Path.{_≡_, refl, sym, ap, _∙_, subst}
+use mathlib.Core.Bool.{Bool, true, false, cond}
+use mathlib.Core.List.{List, [], _∷_, _++_}
+use Prim.Native.Nat.{ℕ, zero, suc, _+_, _-_, _≤_}
+use native.Mathlib.Omega.{arith}
+use lib.ListN.{length, set, length-append, length-set}
+use Rattle.sheet.specs.declared.Line.{Line}
+use Rattle.sheet.specs.Memory.{put, lay, lineIn}
+use Rattle.antiscenario.specs.Build.{uses, marked, wanted, brought}
+
+-- past the end nothing is stored
+pub set-past : (m : List ℕ) (i v : ℕ) → length m ≤ i → m ≡ set m i v
+set-past [] i v h = refl
+set-past (x ∷ m) zero v h = absurd (omega arith)
+set-past (x ∷ m) (suc i) v h = ap (λ (l : List ℕ). x ∷ l) (set-past m i v (omega arith))
+
+-- rows after rows
+pub lay-append : (xs ys : List Line) (i : ℕ) (m : List ℕ) → lay i (xs ++ ys) m ≡ lay (i + length xs) ys (lay i xs m)
+unfolding lay
+lay-append [] ys i m = let e : i + length {A = Line} [] ≡ i = omega arith in rw e
+lay-append (x ∷ xs) ys i m =
+    let e : suc i + length xs ≡ i + length (x ∷ xs) = omega arith in
+    lay-append xs ys (suc i) (put i x m) ∙ ap (λ (j : ℕ). lay j ys (lay (suc i) xs (put i x m))) e
+
+pub lay-one : (l : Line) (i : ℕ) (m : List ℕ) → lay i (l ∷ []) m ≡ put i l m
+unfolding lay
+lay-one l i m = refl
+
+pub put-length : (i : ℕ) (l : Line) (m : List ℕ) → length (put i l m) ≡ length m
+unfolding put
+put-length i l m = simp length-set refl
+
+pub lay-length : (ls : List Line) (i : ℕ) (m : List ℕ) → length (lay i ls m) ≡ length m
+unfolding lay
+lay-length [] i m = refl
+lay-length (l ∷ ls) i m = lay-length ls (suc i) (put i l m) ∙ put-length i l m
+
+-- The rows that a denial brings
+
+module _ (m : List ℕ) (s : ℕ) where
+  pub brought-none : (marks : List ℕ) (i : ℕ) → i ≡ 0 → brought m s marks i ≡ []
+  unfolding brought
+  brought-none marks i e = rw e
+
+  pub brought-skip : (marks : List ℕ) (i : ℕ) → (i ≡ 0 → ⊥) → wanted marks s (lineIn m (i - 1)) ≡ false → brought m s marks i ≡ brought m s marks (i - 1)
+  unfolding brought
+  brought-skip marks zero n w = absurd (n refl)
+  brought-skip marks (suc i) n w = let e : suc i - 1 ≡ i = omega arith in rw e (rw (subst (λ (j : ℕ). wanted marks s (lineIn m j) ≡ false) e w))
+
+  pub brought-more : (marks : List ℕ) (i : ℕ) → (i ≡ 0 → ⊥) → wanted marks s (lineIn m (i - 1)) ≡ true
+      → brought m s marks i ≡ brought m s (marked marks (uses (lineIn m (i - 1)))) (i - 1) ++ (lineIn m (i - 1) ∷ [])
+  unfolding brought
+  brought-more marks zero n w = absurd (n refl)
+  brought-more marks (suc i) n w = let e : suc i - 1 ≡ i = omega arith in rw e (rw (subst (λ (j : ℕ). wanted marks s (lineIn m j) ≡ true) e w))
+
+  pub brought-short : (i : ℕ) (marks : List ℕ) → length (brought m s marks i) ≤ i
+  unfolding brought
+  brought-short zero marks = omega arith
+  brought-short (suc i) marks = go (wanted marks s (lineIn m i)) (brought-short i)
+    where
+      go : (b : Bool) → ((marks : List ℕ) → length (brought m s marks i) ≤ i)
+          → length (cond b (brought m s (marked marks (uses (lineIn m i))) i ++ (lineIn m i ∷ [])) (brought m s marks i)) ≤ suc i
+      go true f = omega (arith, f (marked marks (uses (lineIn m i))), length-append (brought m s (marked marks (uses (lineIn m i))) i) (lineIn m i ∷ []))
+      go false f = omega (arith, f marks)
+
+-- one more at the end
+module _ (m : List ℕ) (s : ℕ) (marks : List ℕ) (i at : ℕ) (out : List ℕ) (n : i ≡ 0 → ⊥) where
+  pub bring-skip-end : wanted marks s (lineIn m (i - 1)) ≡ false → at + length (brought m s marks (i - 1)) ≡ at + length (brought m s marks i)
+  bring-skip-end w = ap (λ (l : List Line). at + length l) (sym (brought-skip m s marks i n w))
+
+  pub bring-skip-memory : wanted marks s (lineIn m (i - 1)) ≡ false → lay at (brought m s marks (i - 1)) out ≡ lay at (brought m s marks i) out
+  bring-skip-memory w = ap (λ (l : List Line). lay at l out) (sym (brought-skip m s marks i n w))
+
+  pub bring-more-end : wanted marks s (lineIn m (i - 1)) ≡ true → at + length (brought m s (marked marks (uses (lineIn m (i - 1)))) (i - 1)) + 1 ≡ at + length (brought m s marks i)
+  bring-more-end w =
+      omega (arith, ap length (brought-more m s marks i n w), length-append (brought m s (marked marks (uses (lineIn m (i - 1)))) (i - 1)) (lineIn m (i - 1) ∷ []))
+
+  pub bring-more-memory : wanted marks s (lineIn m (i - 1)) ≡ true
+      → put (at + length (brought m s (marked marks (uses (lineIn m (i - 1)))) (i - 1))) (lineIn m (i - 1)) (lay at (brought m s (marked marks (uses (lineIn m (i - 1)))) (i - 1)) out)
+      ≡ lay at (brought m s marks i) out
+  bring-more-memory w =
+      sym (lay-one (lineIn m (i - 1)) _ _)
+      ∙ sym (lay-append (brought m s (marked marks (uses (lineIn m (i - 1)))) (i - 1)) (lineIn m (i - 1) ∷ []) at out)
+      ∙ ap (λ (l : List Line). lay at l out) (sym (brought-more m s marks i n w))
+
+  module _ (line : Line) (l : line ≡ lineIn m (i - 1)) where
+    pub bring-skips : (end : ℕ) (out' : List ℕ) → wanted marks s line ≡ false → end ≡ at + length (brought m s marks (i - 1)) → out' ≡ lay at (brought m s marks (i - 1)) out
+        → (end ≡ at + length (brought m s marks i)) × (out' ≡ lay at (brought m s marks i) out)
+    bring-skips end out' w e o =
+        let w' : wanted marks s (lineIn m (i - 1)) ≡ false = ap (wanted marks s) (sym l) ∙ w in
+        (e ∙ bring-skip-end w', o ∙ bring-skip-memory w')
+
+    pub bring-adds : (end : ℕ) (marks' out' out'' : List ℕ) → wanted marks s line ≡ true → marks' ≡ marked marks (uses line)
+        → end ≡ at + length (brought m s marks' (i - 1)) → out' ≡ lay at (brought m s marks' (i - 1)) out → out'' ≡ put end line out'
+        → (end + 1 ≡ at + length (brought m s marks i)) × (out'' ≡ lay at (brought m s marks i) out)
+    bring-adds end marks' out' out'' w k e o p =
+        let w' : wanted marks s (lineIn m (i - 1)) ≡ true = ap (wanted marks s) (sym l) ∙ w in
+        let k' : marks' ≡ marked marks (uses (lineIn m (i - 1))) = k ∙ ap (λ (x : Line). marked marks (uses x)) l in
+        let e' : end ≡ at + length (brought m s (marked marks (uses (lineIn m (i - 1)))) (i - 1)) = e ∙ ap (λ (x : List ℕ). at + length (brought m s x (i - 1))) k' in (
+          ap (λ (x : ℕ). x + 1) e' ∙ bring-more-end w',
+          p ∙ rw (e', l, o, k') (bring-more-memory w'),
+        )
+
+pub bring-zero : (m : List ℕ) (s : ℕ) (marks : List ℕ) (i at : ℕ) (out : List ℕ) → i ≡ 0 → (at ≡ at + length (brought m s marks i)) × (out ≡ lay at (brought m s marks i) out)
+unfolding lay brought
+bring-zero m s marks i at out e = rw e (omega arith, refl)

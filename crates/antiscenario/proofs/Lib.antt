@@ -1,0 +1,14 @@
+pub mod Laws
+pub mod Own
+pub mod Steps
+pub mod Choice
+pub mod Accept
+pub mod Bound
+pub mod Ink
+pub mod Writing
+pub mod Plainly
+pub mod Fitting
+pub mod Demand
+pub mod InMemory
+pub mod Judging
+pub mod Examples

@@ -1,0 +1,15 @@
+-- Document 01's numbers for antiscenarios: the refusals of writing and judging that are not the sheet's or the log's.
+-- Assumes nothing.
+use Prim.Native.Nat.{ℕ}
+
+-- 31 m not in 1 to N
+abbrev pub no-such-number : ℕ
+no-such-number = 31
+
+-- 32 buffer too short
+abbrev pub buffer-too-short : ℕ
+buffer-too-short = 32
+
+-- 34 number of positions not the number of points
+abbrev pub wrong-number-of-positions : ℕ
+wrong-number-of-positions = 34

@@ -1,0 +1,508 @@
+// Antiscenario m: its rows in memory, its text, and whether a placement is a matching of it.
+ghost use mathlib.Core.Path.{_≡_};
+ghost use mathlib.Core.List.{List, [], _∷_, _++_};
+ghost use Prim.Native.Nat.{ℕ, _+_, _*_, _-_, _≤_, _<_};
+ghost use lib.ListN.{length, getD, set, take, drop};
+ghost use lib.Dec.{eqb};
+ghost use Rattle.sheet.specs.Row.{six};
+ghost use Rattle.sheet.specs.Memory.{put, lay, lineIn, linesIn, weight, weightFree, weighLine, product};
+ghost use Rattle.sheet.specs.Text.{rowText, rowsText, headText, sheetText};
+ghost use Rattle.antiscenario.specs.Write.{inked, noText, writeOf, afterWrite};
+ghost use Rattle.antiscenario.specs.Judge.{refusalOf, Ready, unjudged as unjudgedOf, judgeOf};
+ghost use Rattle.scenario.specs.Reading.{All};
+ghost use Rattle.antiscenario.specs.Build.{uses, marked, wanted, brought, own, insideOf, beforeOf, denied, denialFrom, ofSection, built};
+
+// Document 01's refusals of its own: "31 m not in 1 to N", "32 buffer too short", "34 number of positions not the number of points".
+const NO_SUCH_NUMBER: u32 = 31;
+
+const BUFFER_TOO_SHORT: u32 = 32;
+
+const WRONG_NUMBER_OF_POSITIONS: u32 = 34;
+
+// Numbers in memory, six to a row: 176 rows of a sheet, and more than an antiscenario has.
+const SHEET_ROOM: usize = 1056;
+
+const ANTISCENARIO_ROOM: usize = 1200;
+
+// A log in memory, by position: ticks of start, 4,000 lines and close; events of the lines, index 0 unused.
+const TICKS_ROOM: usize = 4002;
+
+const EVENTS_ROOM: usize = 4001;
+
+// "At most 58 points".
+const MOST_POINTS: usize = 58;
+
+// What writing gives: the refusal, or 0 and the text's length.
+pub struct Written {
+    pub refusal: u32,
+    pub length: usize,
+}
+
+// Stores v at index i, where there is one.
+fn store(m: &mut [u32], i: usize, v: u32)
+    ensures { λ _. ⌜ now (m .exit) ≡ set (now (m .entry)) i v ⌝ }
+{
+    if i < m.len() {
+        m[i] = v;
+    }
+}
+
+fn row(section: u32, kind: u32, p: u32, q: u32, a: u32, b: u32) -> sheet::Line
+    ensures { λ r. ⌜ r ≡ six section kind p q a b ⌝ }
+{
+    sheet::Line {
+        section,
+        kind,
+        p,
+        q,
+        a,
+        b,
+    }
+}
+
+// Stores a row as number i, from 0.
+fn put_row(m: &mut [u32], i: usize, line: sheet::Line)
+    requires { ⌜ i ≤ 2000 ⌝ }
+    ensures { λ _. ⌜ now (m .exit) ≡ put i line (now (m .entry)) ⌝ }
+{
+    store(m, 6 * i, line.section);
+    store(m, 6 * i + 1, line.kind);
+    store(m, 6 * i + 2, line.p);
+    store(m, 6 * i + 3, line.q);
+    store(m, 6 * i + 4, line.a);
+    store(m, 6 * i + 5, line.b);
+}
+
+// Row number i, from 0.
+fn row_in(m: &[u32], i: usize) -> sheet::Line
+    requires { ⌜ 6 * i + 6 ≤ length (now m) ⌝ }
+    ensures { λ r. ⌜ r ≡ lineIn (now (m .entry)) i ⌝ }
+{
+    let at = 6 * i;
+    row(m[at], m[at + 1], m[at + 2], m[at + 3], m[at + 4], m[at + 5])
+}
+
+fn mark(marks: &mut [u32], p: u32)
+    ensures { λ _. ⌜ now (marks .exit) ≡ set (now (marks .entry)) p 1 ⌝ }
+{
+    store(marks, p as usize, 1);
+}
+
+// Marks the points that a row uses, without the one it introduces.
+fn mark_uses(marks: &mut [u32], line: sheet::Line)
+    ensures { λ _. ⌜ now (marks .exit) ≡ marked (now (marks .entry)) (uses line) ⌝ }
+{
+    if line.kind <= 1 {
+        return;
+    }
+    if line.kind <= 3 {
+        mark(marks, line.q);
+        return;
+    }
+    if line.kind <= 5 {
+        mark(marks, line.q);
+        mark(marks, line.a);
+        return;
+    }
+    mark(marks, line.p);
+    if line.kind <= 11 {
+        mark(marks, line.q);
+    }
+}
+
+fn is_marked(marks: &[u32], p: u32) -> bool
+    ensures { λ r. ⌜ r ≡ eqb (getD (now (marks .entry)) p 0) 1 ⌝ }
+{
+    pattern::at(marks, p) == 1
+}
+
+// Whether a row is of the section and introduces a marked point.
+fn is_wanted(marks: &[u32], section: u32, line: sheet::Line) -> bool
+    ensures { λ r. ⌜ r ≡ wanted (now (marks .entry)) section line ⌝ }
+{
+    if line.section != section {
+        return false;
+    }
+    if line.kind < 1 {
+        return false;
+    }
+    if 5 < line.kind {
+        return false;
+    }
+    is_marked(marks, line.p)
+}
+
+// Stores, of the first i rows, those of the section that introduce marked points, and the points that these need in turn; gives where they end.
+fn bring(
+    rows: &[u32],
+    i: usize,
+    section: u32,
+    marks: &mut [u32],
+    out: &mut [u32],
+    at: usize,
+) -> usize
+    requires { ⌜ (6 * i ≤ length (now rows)) × (i ≤ 176) × (at ≤ 1500) ⌝ }
+    ensures ends { λ r. ⌜ r ≡ at + length (brought (now (rows .entry)) section (now (marks .entry)) i) ⌝ }
+    ensures memory { λ r. ⌜ now (out .exit) ≡ lay at (brought (now (rows .entry)) section (now (marks .entry)) i) (now (out .entry)) ⌝ }
+{
+    if i == 0 {
+        return at;
+    }
+    let line = row_in(rows, i - 1);
+    if !is_wanted(marks, section, line) {
+        return bring(rows, i - 1, section, marks, out, at);
+    }
+    mark_uses(marks, line);
+    let end = bring(rows, i - 1, section, marks, out, at);
+    put_row(out, end, line);
+    end + 1
+}
+
+fn before(section: u32, p: u32, q: u32) -> sheet::Line
+    ensures { λ r. ⌜ r ≡ six section 6 p q 0 0 ⌝ }
+{
+    row(section, 6, p, q, 0, 0)
+}
+
+// r on the inner side of an end e, which is the start or the close, seen from p.
+fn inside(section: u32, r: u32, e: u32, p: u32) -> sheet::Line
+    ensures { λ l. ⌜ l ≡ insideOf section r e p ⌝ }
+{
+    if e == 0 {
+        return before(section, r, p);
+    }
+    before(section, p, r)
+}
+
+// The row that denies a row of a kind other than FREE; v tells BEFORE's two denials apart. Accepted rows have no other kinds.
+fn deny_line(line: sheet::Line, v: u64) -> sheet::Line
+    requires { ⌜ (v < weight (line .kind) (line .p) (line .q)) × (line .kind ≡ 9 → ⊥) ⌝ }
+    ensures { λ r. ⌜ own line v ≡ r ∷ [] ⌝ }
+{
+    let s = line.section;
+    let p = line.p;
+    let q = line.q;
+    let kind = line.kind;
+    match kind {
+        2 => row(s, 9, q, 99, line.a, 0),
+        3 => row(s, 9, 0, q, line.a, 0),
+        6 => deny_before(s, p, q, v),
+        7 => row(s, 8, p, q, 0, 0),
+        8 => row(s, 7, p, q, 0, 0),
+        10 => row(s, 11, p, q, line.a, line.b),
+        11 => row(s, 10, p, q, line.a, line.b),
+        12 => row(s, 12, p, 0, 4294967295 - line.a, 0),
+        _ => row(s, 7, 0, 0, 0, 0),
+    }
+}
+
+fn deny_before(s: u32, p: u32, q: u32, v: u64) -> sheet::Line
+    requires { ⌜ v < 2 ⌝ }
+    ensures { λ r. ⌜ r ≡ beforeOf s p q v ⌝ }
+{
+    if v == 0 {
+        return before(s, q, p);
+    }
+    row(s, 8, p, q, 0, 0)
+}
+
+// Stores the own rows of denial v of FREE; gives where they end.
+fn deny_free(line: sheet::Line, v: u64, out: &mut [u32], at: usize) -> usize
+    requires { ⌜ (v < weightFree (line .p) (line .q)) × (line .section ≤ 100) × (line .kind ≡ 9) × (at ≤ 1900) ⌝ }
+    ensures ends { λ r. ⌜ r ≡ at + length (own line v) ⌝ }
+    ensures memory { λ r. ⌜ now (out .exit) ≡ lay at (own line v) (now (out .entry)) ⌝ }
+{
+    let s = line.section;
+    let p = line.p;
+    let q = line.q;
+    let r = 10 * s + 9;
+    put_row(out, at, row(s, 1, r, 0, line.a, 0));
+    if sheet::is_edge(p) {
+        if sheet::is_edge(q) {
+            return at + 1;
+        }
+        put_row(out, at + 1, inside(s, r, p, q));
+        return at + 2;
+    }
+    if sheet::is_edge(q) {
+        put_row(out, at + 1, inside(s, r, q, p));
+        return at + 2;
+    }
+    if v == 0 {
+        put_row(out, at + 1, before(s, p, r));
+        put_row(out, at + 2, before(s, r, q));
+        return at + 3;
+    }
+    put_row(out, at + 1, before(s, q, r));
+    put_row(out, at + 2, before(s, r, p));
+    at + 3
+}
+
+// Stores the own rows of denial v of a row; gives where they end.
+fn own_rows(line: sheet::Line, v: u64, out: &mut [u32], at: usize) -> usize
+    requires { ⌜ (v < weight (line .kind) (line .p) (line .q)) × (line .section ≤ 100) × (at ≤ 1900) ⌝ }
+    ensures ends { λ r. ⌜ r ≡ at + length (own line v) ⌝ }
+    ensures memory { λ r. ⌜ now (out .exit) ≡ lay at (own line v) (now (out .entry)) ⌝ }
+{
+    if line.kind == 9 {
+        return deny_free(line, v, out, at);
+    }
+    put_row(out, at, deny_line(line, v));
+    at + 1
+}
+
+// Stores denial v of row number i, from 0: the rows that it brings and its own; gives where they end.
+fn deny_row(rows: &[u32], i: usize, v: u64, out: &mut [u32], at: usize) -> usize
+    requires { ⌜ (6 * i + 6 ≤ length (now rows)) × (i < 176) × (at ≤ 1500) × (lineIn (now rows) i .section ≤ 100) × (v < weighLine (lineIn (now rows) i .section) (lineIn (now rows) i)) ⌝ }
+    ensures ends { λ r. ⌜ r ≡ at + length (denied (now (rows .entry)) i v) ⌝ }
+    ensures memory { λ r. ⌜ now (out .exit) ≡ lay at (denied (now (rows .entry)) i v) (now (out .entry)) ⌝ }
+{
+    let line = row_in(rows, i);
+    let mut marks = [0u32; 100];
+    mark_uses(&mut marks, line);
+    let end = bring(rows, i, line.section, &mut marks, out, at);
+    own_rows(line, v, out, end)
+}
+
+// Stores denial j of a section's; gives where its rows end.
+fn deny_section(rows: &[u32], n: usize, section: u32, j: u64, out: &mut [u32], at: usize) -> usize
+    requires { ⌜ (1056 ≤ length (now rows)) × (n ≤ 176) × (section ≤ 100) × (at ≤ 1500) ⌝ }
+    ensures ends { λ r. ⌜ r ≡ at + length (denialFrom (now (rows .entry)) section 0 n j) ⌝ }
+    ensures memory { λ r. ⌜ now (out .exit) ≡ lay at (denialFrom (now (rows .entry)) section 0 n j) (now (out .entry)) ⌝ }
+{
+    let mut i: usize = 0;
+    let mut left = j;
+    while i < n {
+        let w = sheet::weigh_at(rows, i, section);
+        if left < w {
+            return deny_row(rows, i, left, out, at);
+        }
+        left -= w;
+        i += 1;
+    }
+    at
+}
+
+// Stores the rows of a section; gives how many.
+fn copy_section(rows: &[u32], n: usize, section: u32, out: &mut [u32]) -> usize
+    requires { ⌜ (1056 ≤ length (now rows)) × (n ≤ 176) ⌝ }
+    ensures ends { λ r. ⌜ r ≡ length (ofSection section (linesIn (now (rows .entry)) 0 n)) ⌝ }
+    ensures memory { λ r. ⌜ now (out .exit) ≡ lay 0 (ofSection section (linesIn (now (rows .entry)) 0 n)) (now (out .entry)) ⌝ }
+{
+    let mut i: usize = 0;
+    let mut at: usize = 0;
+    while i < n {
+        let line = row_in(rows, i);
+        i += 1;
+        if line.section != section {
+            continue;
+        }
+        put_row(out, at, line);
+        at += 1;
+    }
+    at
+}
+
+// Stores the rows of antiscenario j + 1 of a sheet in memory, whose count is given; gives how many.
+pub fn build(rows: &[u32], n: usize, k: u32, count: u64, j: u64, out: &mut [u32]) -> usize
+    requires { ⌜ (1056 ≤ length (now rows)) × (n ≤ 176) × (k ≤ 6) × (1 ≤ count) × (count ≡ product 1 k (linesIn (now rows) 0 n)) ⌝ }
+    ensures ends { λ r. ⌜ r ≡ length (built (now (rows .entry)) n k j) ⌝ }
+    ensures memory { λ r. ⌜ now (out .exit) ≡ lay 0 (built (now (rows .entry)) n k j) (now (out .entry)) ⌝ }
+{
+    let mut at = copy_section(rows, n, 0, out);
+    let mut s: u32 = 0;
+    let mut total = count;
+    let mut left = j;
+    while s < k {
+        s += 1;
+        total = total / sheet::denials_of(rows, n, s);
+        at = deny_section(rows, n, s, left / total, out, at);
+        left = left % total;
+    }
+    at
+}
+
+// Writes a row's line from index at on.
+fn write_row(buf: &mut [u8], at: usize, line: sheet::Line)
+    requires { ⌜ (at + 35 ≤ length (now buf)) × (at ≤ 100000) ⌝ }
+    ensures { λ _. ⌜ now (buf .exit) ≡ inked at (rowText line) (now (buf .entry)) ⌝ }
+{
+    columns::write_number(buf, at, 3, line.section);
+    columns::write_number(buf, at + 3, 3, line.kind);
+    columns::write_number(buf, at + 6, 3, line.p);
+    columns::write_number(buf, at + 9, 3, line.q);
+    columns::write_number(buf, at + 12, 11, line.a);
+    columns::write_number(buf, at + 23, 11, line.b);
+    buf[at + 34] = 10;
+}
+
+// Writes the first line.
+fn write_head(buf: &mut [u8], k: u32, n: u32)
+    requires { ⌜ 7 ≤ length (now buf) ⌝ }
+    ensures { λ _. ⌜ now (buf .exit) ≡ inked 0 (headText k n) (now (buf .entry)) ⌝ }
+{
+    columns::write_number(buf, 0, 3, k);
+    columns::write_number(buf, 3, 3, n);
+    buf[6] = 10;
+}
+
+// Writes the lines of n rows in memory, from index 7 on.
+fn write_rows(buf: &mut [u8], rows: &[u32], n: usize)
+    requires { ⌜ (7 + 35 * n ≤ length (now buf)) × (n ≤ 200) × (6 * n ≤ length (now rows)) ⌝ }
+    ensures { λ _. ⌜ now (buf .exit) ≡ inked 7 (rowsText (linesIn (now (rows .entry)) 0 n)) (now (buf .entry)) ⌝ }
+{
+    let mut i: usize = 0;
+    while i < n {
+        write_row(buf, 7 + 35 * i, row_in(rows, i));
+        i += 1;
+    }
+}
+
+// Writes the text of n rows in memory.
+fn write_text(buf: &mut [u8], k: u32, rows: &[u32], n: usize)
+    requires { ⌜ (7 + 35 * n ≤ length (now buf)) × (n ≤ 200) × (6 * n ≤ length (now rows)) ⌝ }
+    ensures { λ _. ⌜ now (buf .exit) ≡ sheetText k (linesIn (now (rows .entry)) 0 n) ++ drop (7 + 35 * n) (now (buf .entry)) ⌝ }
+{
+    write_head(buf, k, n as u32);
+    write_rows(buf, rows, n);
+}
+
+fn no_text(refusal: u32) -> Written
+    ensures { λ r. ⌜ r ≡ noText refusal ⌝ }
+{
+    Written { refusal, length: 0 }
+}
+
+// "Write antiscenario m into a lent buffer."
+pub fn write_antiscenario(sheet: &[u8], m: u64, buf: &mut [u8]) -> Written
+    ensures answers { λ r. ⌜ r ≡ writeOf (now (sheet .entry)) m (length (now (buf .entry))) ⌝ }
+    ensures memory { λ r. ⌜ now (buf .exit) ≡ afterWrite (now (sheet .entry)) m (now (buf .entry)) ⌝ }
+{
+    let mut rows = [0u32; SHEET_ROOM];
+    let read = sheet::load_sheet(sheet, &mut rows);
+    if read.refusal != 0 {
+        return no_text(read.refusal);
+    }
+    if m < 1 {
+        return no_text(NO_SUCH_NUMBER);
+    }
+    if read.count < m {
+        return no_text(NO_SUCH_NUMBER);
+    }
+    let mut out = [0u32; ANTISCENARIO_ROOM];
+    let n = build(&rows, read.rows, read.k, read.count, m - 1, &mut out);
+    let size = 7 + 35 * n;
+    if buf.len() < size {
+        return no_text(BUFFER_TOO_SHORT);
+    }
+    write_text(buf, read.k, &out, n);
+    Written {
+        refusal: 0,
+        length: size,
+    }
+}
+
+// What reading an antiscenario and a log gives: the refusal or 0, how many rows the antiscenario has and how many lines the log.
+pub struct Loaded {
+    pub refusal: u32,
+    pub rows: u32,
+    pub lines: u32,
+}
+
+fn not_loaded(refusal: u32) -> Loaded
+    ensures { λ r. ⌜ r .refusal ≡ refusal ⌝ }
+{
+    Loaded {
+        refusal,
+        rows: 0,
+        lines: 0,
+    }
+}
+
+// Reads a sheet and a log, and stores antiscenario m, six numbers to a row, and the log by position.
+pub fn load_antiscenario(
+    sheet: &[u8],
+    log: &[u8],
+    m: u64,
+    out: &mut [u32],
+    ticks: &mut [u32],
+    events: &mut [u32],
+) -> Loaded
+    requires { ⌜ (1200 ≤ length (now out)) × (length (now ticks) ≡ 4002) × (length (now events) ≡ 4001) × All (λ (e : ℕ). e < 32) (now events) ⌝ }
+    ensures refusal { λ r. ⌜ r .refusal ≡ refusalOf (now (sheet .entry)) (now (log .entry)) m ⌝ }
+    ensures memory { λ r. ⌜ (r .refusal ≡ 0 → Ready (now (sheet .entry)) (now (log .entry)) m (now (out .exit)) (now (ticks .exit)) (now (events .exit)) (r .rows) (r .lines)) ⌝ }
+{
+    let mut rows = [0u32; SHEET_ROOM];
+    let s = sheet::load_sheet(sheet, &mut rows);
+    if s.refusal != 0 {
+        return not_loaded(s.refusal);
+    }
+    let l = runlog::load_log(log, ticks, events);
+    if l.refusal != 0 {
+        return not_loaded(l.refusal);
+    }
+    if m < 1 {
+        return not_loaded(NO_SUCH_NUMBER);
+    }
+    if s.count < m {
+        return not_loaded(NO_SUCH_NUMBER);
+    }
+    let n = build(&rows, s.rows, s.k, s.count, m - 1, out);
+    Loaded {
+        refusal: 0,
+        rows: n as u32,
+        lines: l.n as u32,
+    }
+}
+
+// A placement handed over whole: a position for each point, in order of introduction, and their number. Entries past it play no part.
+#[repr(C)]
+pub struct Placement {
+    pub positions: [u32; MOST_POINTS],
+    pub count: usize,
+}
+
+// What judging gives: the refusal, or 0 and whether the placement is a matching.
+pub struct Judged {
+    pub refusal: u32,
+    pub met: bool,
+}
+
+fn unjudged(refusal: u32) -> Judged
+    ensures { λ r. ⌜ r ≡ unjudgedOf refusal ⌝ }
+{
+    Judged {
+        refusal,
+        met: false,
+    }
+}
+
+// "Judge a placement of antiscenario m."
+pub fn judge(sheet: &[u8], log: &[u8], m: u64, placement: Placement) -> Judged
+    ensures answer { λ r. ⌜ r ≡ judgeOf (now (sheet .entry)) (now (log .entry)) m (placement .positions) (placement .count) ⌝ }
+    ensures past { λ r. ⌜ ((table : List ℕ) → take (placement .count) table ≡ take (placement .count) (placement .positions) → r ≡ judgeOf (now (sheet .entry)) (now (log .entry)) m table (placement .count)) ⌝ }
+{
+    let mut rows = [0u32; ANTISCENARIO_ROOM];
+    let mut ticks = [0u32; TICKS_ROOM];
+    let mut events = [0u32; EVENTS_ROOM];
+    let a = load_antiscenario(sheet, log, m, &mut rows, &mut ticks, &mut events);
+    if a.refusal != 0 {
+        return unjudged(a.refusal);
+    }
+    let mut pts = [0u32; MOST_POINTS];
+    let np = pattern::gather(&rows, a.rows, &mut pts);
+    if placement.count != np as usize {
+        return unjudged(WRONG_NUMBER_OF_POSITIONS);
+    }
+    let met = pattern::is_matching(
+        &ticks,
+        &events,
+        a.lines,
+        &rows,
+        a.rows,
+        &pts,
+        np,
+        &placement.positions,
+    );
+    Judged { refusal: 0, met }
+}

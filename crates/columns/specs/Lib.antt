@@ -1,0 +1,3 @@
+pub mod Number
+pub mod Spell
+pub mod Entry

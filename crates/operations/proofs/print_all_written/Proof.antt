@@ -1,0 +1,16 @@
+-- `print_all_written` is safe and ends: the numbers left fall.
+-- Assumes nothing.
+use borrow.Author.Needs.{needs}
+use Prim.Native.Nat.{_-_, _≤_}
+use Rattle.operations.proofs.print_all_written.Statement.{statement}
+use Rattle.operations.proofs.print_all_written.Tie as tie
+
+abbrev Inv-loop : tie.InvT-loop
+Inv-loop sheet first last number₀ number = number₀ ≤ number
+
+abbrev μ-loop : tie.MeasureT-loop
+μ-loop sheet first last number₀ number = last - number
+
+pub print-all-written-spec : {M : Type 1} → statement M
+print-all-written-spec =
+    tie.close (tie.spec Inv-loop μ-loop (λ c. search needs) (λ c κs. search needs) (λ c. search needs) (λ c. search needs) (λ c. search needs) (λ c κs. search needs) (λ c. search needs) (λ c. search needs))

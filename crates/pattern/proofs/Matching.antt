@@ -1,0 +1,131 @@
+-- A placement put into an array by point number: all rows are met there, and all its positions are lines', exactly when it is a matching.
+-- Assumes nothing.
+use mathlib.Core.Path.{_≡_, refl, sym, ap, ap₂, _∙_}
+use mathlib.Core.Bool.{Bool, true, false, _&&_}
+use mathlib.Core.List.{List, [], _∷_, map}
+use Prim.Native.Nat.{ℕ, suc, _+_, _-_, _≤_, _<_}
+use native.Mathlib.Numerals.{add-one}
+use native.Mathlib.Omega.{arith}
+use lib.ListN.{length, getD, set, take, drop, replicate, length-take, length-set, drop-of-length-le}
+use lib.Seq.{drop-cons, getD-take, length-take-le}
+use lib.Dec.{T}
+use borrow.Author.Tests.{eq-eqb, le-leb, lt-leb}
+use Rattle.scenario.specs.Rows.{Row, Run, Env, meets, introduced, needs, points, elem}
+use Rattle.scenario.specs.Sheet.{env, all, is-line, matching}
+use Rattle.scenario.specs.Reading.{All, Ordinary, Pattern}
+use Rattle.scenario.proofs.Base.{all-map, all-elem, elem-at, elem-front, elem-back}
+use Rattle.scenario.proofs.Rules.{Fixed, Agree, meets-same}
+use Rattle.scenario.proofs.Place.{env-map}
+use Rattle.runlog.specs.Held.{Held, runAt}
+use Rattle.runlog.proofs.Logs.{part-length}
+use Rattle.pattern.specs.Decode.{by, rowAt, listed}
+use Rattle.pattern.specs.Placing.{puts, isPosition}
+use Rattle.pattern.proofs.Placing.{puts-keep, puts-read}
+
+-- Positions one after another
+
+module _ (n : ℕ) (xs : List ℕ) (np j : ℕ) (hx : np ≤ length xs) where
+  position-step : j < np → all (isPosition n) (drop j (take np xs)) ≡ (isPosition n (getD xs j 0) && all (isPosition n) (drop (j + 1) (take np xs)))
+  unfolding all
+  position-step h = rw (add-one j, drop-cons (take np xs) j 0 (omega (arith, length-take-le np xs hx)), getD-take np xs j 0 h)
+
+  module _ (x : ℕ) (e : x ≡ getD xs j 0) (h : j < np) where
+    pub position-low : x < 1 → all (isPosition n) (drop j (take np xs)) ≡ false
+    unfolding isPosition
+    position-low l = position-step h ∙ rw (sym e) (simp (lt-leb 1 x l))
+
+    pub position-high : 1 ≤ x → n < x → all (isPosition n) (drop j (take np xs)) ≡ false
+    unfolding isPosition
+    position-high l m = position-step h ∙ rw (sym e) (simp (le-leb 1 x l, lt-leb x n m))
+
+    pub position-on : 1 ≤ x → x ≤ n → all (isPosition n) (drop j (take np xs)) ≡ all (isPosition n) (drop (j + 1) (take np xs))
+    unfolding isPosition
+    position-on l m = position-step h ∙ rw (sym e) (simp (le-leb 1 x l, le-leb x n m))
+
+  pub position-end : np ≤ j → all (isPosition n) (drop j (take np xs)) ≡ true
+  unfolding all
+  position-end h = let e : length (take np xs) ≤ j = omega (arith, length-take-le np xs hx) in rw (drop-of-length-le (take np xs) e)
+
+-- Rows one after another
+
+module _ (run : Run) (e : Env) (rows : List ℕ) (count j : ℕ) where
+  met-step : j < count → all (meets run e) (listed (rowAt rows) j (count - j)) ≡ (meets run e (rowAt rows j) && all (meets run e) (listed (rowAt rows) (j + 1) (count - (j + 1))))
+  unfolding all listed
+  met-step h = let k : count - j ≡ suc (count - (j + 1)) = omega arith in rw (k, add-one j)
+
+  module _ (row : Row) (q : row ≡ rowAt rows j) (h : j < count) where
+    pub met-on : meets run e row ≡ true → all (meets run e) (listed (rowAt rows) (j + 1) (count - (j + 1))) ≡ all (meets run e) (listed (rowAt rows) j (count - j))
+    met-on t = sym (met-step h ∙ ap (λ (b : Bool). b && all (meets run e) (listed (rowAt rows) (j + 1) (count - (j + 1)))) (sym (ap (meets run e) q) ∙ t))
+
+    pub met-not : meets run e row ≡ false → false ≡ all (meets run e) (listed (rowAt rows) j (count - j))
+    met-not t = sym (met-step h ∙ ap (λ (b : Bool). b && all (meets run e) (listed (rowAt rows) (j + 1) (count - (j + 1)))) (sym (ap (meets run e) q) ∙ t))
+
+  pub met-end : count ≤ j → true ≡ all (meets run e) (listed (rowAt rows) j (count - j))
+  unfolding all listed
+  met-end h = let k : count - j ≡ 0 = omega arith in rw k
+
+-- The whole
+
+all-same : (f g : Row → Bool) (rs : List Row) → All (λ (k : Row). f k ≡ g k) rs → all f rs ≡ all g rs
+unfolding all
+all-same f g [] h = refl
+all-same f g (k ∷ rs) h = ap₂ _&&_ (h .0) (all-same f g rs (h .1))
+
+module _ (run : Run) (rs : List Row) (R : Pattern rs) (E xs : List ℕ) (start : getD E 0 0 ≡ 0) (close : getD E 99 0 ≡ suc (run .lines)) (size : length E ≡ 100) (l : length xs ≡ length (points rs)) where
+  not-in : (m : ℕ) → (Ordinary m → ⊥) → T (elem m (points rs)) → ⊥
+  not-in m h t = h (elem-at Ordinary m (points rs) t (all-map (λ k q. q .0) (points rs) (R .plain)))
+
+  fixed : Fixed run (by (puts E (points rs) xs))
+  fixed = record {
+    start = puts-keep E (points rs) xs 0 (not-in 0 (λ q. q .not-start refl)) ∙ start;
+    close = puts-keep E (points rs) xs 99 (not-in 99 (λ q. q .not-close refl)) ∙ close;
+  }
+
+  -- the array agrees with the placement on every point that a row mentions
+  agree : (m : ℕ) → (Ordinary m → T (elem m (points rs))) → by (puts E (points rs) xs) m ≡ env run (points rs) xs m
+  agree m h =
+      env-map run (points rs) (by (puts E (points rs) xs)) fixed m h
+      ∙ ap (λ (z : List ℕ). env run (points rs) z m) (puts-read E (points rs) xs (R .once) l (all-map (λ m q. omega (arith, q .1, size)) (points rs) (R .plain)))
+
+  met-same : all (meets run (by (puts E (points rs) xs))) rs ≡ all (meets run (env run (points rs) xs)) rs
+  met-same =
+      all-same _ _ rs (all-map (λ k f. meets-same run (by (puts E (points rs) xs)) (env run (points rs) xs) k
+      (all-elem (λ (m : ℕ). by (puts E (points rs) xs) m ≡ env run (points rs) xs m) (needs k) (λ m t. agree m (λ o. f m (elem-back m (introduced k) (needs k) t) (o .not-start) (o .not-close))))
+      (all-elem (λ (m : ℕ). by (puts E (points rs) xs) m ≡ env run (points rs) xs m) (introduced k) (λ m t. agree m (λ o. f m (elem-front m (introduced k) (needs k) t) (o .not-start) (o .not-close)))))
+      rs (R .known))
+
+  matching-met : all (is-line run) xs ≡ true → all (meets run (by (puts E (points rs) xs))) rs ≡ matching run rs xs
+  unfolding matching
+  matching-met a = met-same ∙ rw (eq-eqb (length xs) (length (points rs)) l, a)
+
+matching-off : (run : Run) (rs : List Row) (xs : List ℕ) → length xs ≡ length (points rs) → all (is-line run) xs ≡ false → false ≡ matching run rs xs
+unfolding matching
+matching-off run rs xs l a = rw (eq-eqb (length xs) (length (points rs)) l, a)
+
+-- Over a log in memory, by how the test ends: np points at the front of pts, and as many positions at the front of xs
+module _ (ticks events : List ℕ) (n : ℕ) (H : Held ticks events n) (rs : List Row) (pts xs : List ℕ) (np : ℕ) (en : np ≡ length (points rs)) (ep : take np pts ≡ points rs) (hx : np ≤ length xs) where
+  line-is : (z : ℕ) → isPosition n z ≡ is-line (runAt ticks events n) z
+  unfolding isPosition is-line
+  line-is z = rw (part-length events n (H .lines .room))
+
+  lines-are : (zs : List ℕ) → all (isPosition n) zs ≡ all (is-line (runAt ticks events n)) zs
+  unfolding all
+  lines-are [] = refl
+  lines-are (z ∷ zs) = ap₂ _&&_ (line-is z) (lines-are zs)
+
+  size-is : length (take np xs) ≡ length (points rs)
+  size-is = length-take-le np xs hx ∙ en
+
+  pub points-room : np ≤ length pts
+  points-room = omega (arith, length-take np pts, ap length ep, en)
+
+  pub placement-off : (b : Bool) → b ≡ all (isPosition n) (take np xs) → b ≡ false → false ≡ matching (runAt ticks events n) rs (take np xs)
+  placement-off b e f = matching-off (runAt ticks events n) rs (take np xs) size-is (sym (lines-are (take np xs)) ∙ sym e ∙ f)
+
+  pub placement-met : Pattern rs → (b : Bool) → b ≡ all (isPosition n) (take np xs) → b ≡ true → (E : List ℕ) → E ≡ puts (set (replicate 100 0) 99 (n + 1)) (take np pts) (take np xs)
+      → (r : Bool) → r ≡ all (meets (runAt ticks events n) (by E)) rs → r ≡ matching (runAt ticks events n) rs (take np xs)
+  placement-met R b e f E g r h =
+      h
+      ∙ ap (λ (z : List ℕ). all (meets (runAt ticks events n) (by z)) rs) (g ∙ ap (λ (ps : List ℕ). puts (set (replicate 100 0) 99 (n + 1)) ps (take np xs)) ep)
+      ∙ matching-met (runAt ticks events n) rs R (set (replicate 100 0) 99 (n + 1)) (take np xs) refl
+      (rw (part-length events n (H .lines .room), add-one n)) (length-set (replicate 100 0) 99 (n + 1)) size-is (sym (lines-are (take np xs)) ∙ sym e ∙ f)

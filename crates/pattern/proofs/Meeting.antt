@@ -1,0 +1,102 @@
+-- What a row of a kind asks, of positions.
+-- Assumes nothing.
+use mathlib.Core.Path.{_≡_, refl, sym, ap}
+use mathlib.Core.Bool.{Bool, false, not}
+use mathlib.Core.List.{List, [], _∷_}
+use Prim.Native.Nat.{ℕ, zero, suc, _≤_, _<_}
+use native.Mathlib.Omega.{arith}
+use lib.ListN.{getD, List·getD-eq-default}
+use lib.Dec.{eqb, eqb-refl}
+use Rattle.scenario.specs.Rows.{clear, meets, apart, point, next, last, earlier, later, before, same, free, within, outside, event}
+use Rattle.scenario.specs.Log.{hasAt}
+use Rattle.scenario.proofs.Base.{is-true}
+use Rattle.runlog.specs.Held.{Held, part, runAt, bare, nearOf}
+use Rattle.pattern.specs.Meeting.{placedBy, orderedBy}
+use Rattle.pattern.specs.Decode.{decode, by}
+use Rattle.runlog.proofs.Logs.{near-is}
+
+four : (P : ℕ → Type 0) → P 2 → P 3 → P 4 → P 5 → (k : ℕ) → 2 ≤ k → k ≤ 5 → P k
+four P a b c d zero l h = absurd (omega arith)
+four P a b c d (suc zero) l h = absurd (omega arith)
+four P a b c d (suc (suc zero)) l h = a
+four P a b c d (suc (suc (suc zero))) l h = b
+four P a b c d (suc (suc (suc (suc zero)))) l h = c
+four P a b c d (suc (suc (suc (suc (suc zero))))) l h = d
+four P a b c d (suc (suc (suc (suc (suc (suc k)))))) l h = absurd (omega arith)
+
+three : (P : ℕ → Type 0) → P 6 → P 7 → P 8 → (k : ℕ) → 6 ≤ k → k ≤ 8 → P k
+three P a b c zero l h = absurd (omega arith)
+three P a b c (suc zero) l h = absurd (omega arith)
+three P a b c (suc (suc zero)) l h = absurd (omega arith)
+three P a b c (suc (suc (suc zero))) l h = absurd (omega arith)
+three P a b c (suc (suc (suc (suc zero)))) l h = absurd (omega arith)
+three P a b c (suc (suc (suc (suc (suc zero))))) l h = absurd (omega arith)
+three P a b c (suc (suc (suc (suc (suc (suc zero)))))) l h = a
+three P a b c (suc (suc (suc (suc (suc (suc (suc zero))))))) l h = b
+three P a b c (suc (suc (suc (suc (suc (suc (suc (suc zero)))))))) l h = c
+three P a b c (suc (suc (suc (suc (suc (suc (suc (suc (suc k))))))))) l h = absurd (omega arith)
+
+pub past : (k n : ℕ) → n ≤ k → (k ≡ n → ⊥) → n < k
+past k n le ne = omega arith
+
+pub under : (k n : ℕ) → k < suc n → k ≤ n
+under k n h = omega arith
+
+module _ (ticks events env : List ℕ) (n kind p q a b x y : ℕ) (H : Held ticks events n) (ex : x ≡ getD env p 0) (ey : y ≡ getD env q 0) where
+  abbrev pub Met : Bool → Type 0
+  Met r = r ≡ meets (runAt ticks events n) (by env) (decode kind p q a b)
+
+  pub met-1 : kind ≡ 1 → Met (hasAt (part events n) a x)
+  unfolding meets decode
+  met-1 k = rw (k, ex)
+
+  pub met-12 : kind ≡ 12 → Met (hasAt (part events n) a x)
+  unfolding meets decode
+  met-12 k = rw (k, ex)
+
+  pub met-9 : kind ≡ 9 → Met (clear (bare events n) a x y)
+  unfolding meets decode clear
+  met-9 k = rw (k, ex, ey)
+
+  pub met-10 : kind ≡ 10 → Met (nearOf ticks n x y a b)
+  unfolding meets decode
+  met-10 k = rw (k, ex, ey) (sym (near-is ticks events n (H .room) (getD env p 0) (getD env q 0) a b))
+
+  pub met-11 : kind ≡ 11 → Met (not (nearOf ticks n x y a b))
+  unfolding meets decode
+  met-11 k = rw (k, ex, ey) (ap not (sym (near-is ticks events n (H .room) (getD env p 0) (getD env q 0) a b)))
+
+  pub met-placed : (z : ℕ) → z ≡ getD env a 0 → 2 ≤ kind → kind ≤ 5 → Met (placedBy (bare events n) kind a x y z)
+  unfolding meets decode placedBy clear
+  met-placed z ez l h =
+      rw (ex, ey, ez)
+      (four (λ (k : ℕ). placedBy (bare events n) k a (getD env p 0) (getD env q 0) (getD env a 0) ≡ meets (runAt ticks events n) (by env) (decode k p q a b))
+      refl refl refl refl kind l h)
+
+  pub met-ordered : 6 ≤ kind → kind ≤ 8 → Met (orderedBy kind x y)
+  unfolding meets decode orderedBy
+  met-ordered l h =
+      rw (ex, ey)
+      (three (λ (k : ℕ). orderedBy k (getD env p 0) (getD env q 0) ≡ meets (runAt ticks events n) (by env) (decode k p q a b)) refl refl refl kind l h)
+
+  never : decode kind p q a b ≡ apart 0 0 → Met false
+  unfolding meets
+  never e = rw e (sym (ap not (is-true (eqb (getD env 0 0) (getD env 0 0)) (eqb-refl (getD env 0 0)))))
+
+  pub met-low : kind < 1 → Met false
+  unfolding decode
+  met-low h = never (low kind h)
+    where
+      low : (k : ℕ) → k < 1 → decode k p q a b ≡ apart 0 0
+      low zero h = refl
+      low (suc k) h = absurd (omega arith)
+
+  pub met-high : 12 < kind → Met false
+  unfolding decode
+  met-high h = never high
+    where
+      high : decode kind p q a b ≡ apart 0 0
+      high =
+          List·getD-eq-default
+          (apart 0 0 ∷ point p a ∷ next p q a ∷ last p q a ∷ earlier p q a ∷ later p q a ∷ before p q ∷ apart p q ∷ same p q ∷ free p q a
+          ∷ within p q a b ∷ outside p q a b ∷ event p a ∷ []) (apart 0 0) {n = kind} h

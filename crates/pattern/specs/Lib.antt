@@ -1,0 +1,3 @@
+pub mod Decode
+pub mod Meeting
+pub mod Placing

@@ -1,0 +1,10 @@
+pub mod Loop
+pub mod Fields
+pub mod Whole
+pub mod Ending
+pub mod Texts
+pub mod Theorems
+pub mod Loading
+pub mod Scans
+pub mod Logs
+pub mod Examples

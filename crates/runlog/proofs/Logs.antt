@@ -1,0 +1,152 @@
+-- The log in memory: what its slices say of positions, and that its run has the laws that the theorems on rows ask.
+-- Assumes nothing.
+use mathlib.Core.Path.{_≡_, refl, sym, _∙_, ap, ap₂, subst}
+use mathlib.Core.Bool.{Bool, true, false, cond, and-false}
+use mathlib.Core.List.{List, [], _∷_}
+use Prim.Native.Nat.{ℕ, zero, suc, _+_, _-_, _≤_, _<_, min, max}
+use native.Mathlib.Omega.{arith}
+use lib.ListN.{length, getD, drop, length-take, length-drop, List·getD-eq-default}
+use lib.Seq.{getD-take, getD-drop}
+use lib.Dec.{T, ltb, leb, eqb, not-T}
+use borrow.Author.Tests.{lt-ltb, le-ltb, le-leb, lt-leb, eq-eqb, ne-eqb}
+use Rattle.scenario.specs.Rows.{between, clear}
+use Rattle.scenario.specs.Log.{inSet, hasAt, tick, nearAt, runOf}
+use Rattle.scenario.proofs.Base.{is-true, is-false, getD-all, Order, lower, level, upper, order}
+use Rattle.scenario.proofs.Rules.{Laws, between-up, between-down, Between, up, down, between-way, clear-put, clear-get}
+use Rattle.scenario.proofs.Logs.{laws}
+use Rattle.runlog.specs.Held.{Events, Held, part, logOf, runAt, bare, tickOf, gap, nearOf}
+
+-- the default does not matter in a list
+default : (l : List ℕ) (i d d' : ℕ) → i < length l → getD l i d ≡ getD l i d'
+default [] i d d' h = absurd (omega arith)
+default (x ∷ xs) zero d d' h = refl
+default (x ∷ xs) (suc i) d d' h = default xs i d d' (omega arith)
+
+module _ (l : List ℕ) (n : ℕ) (room : n < length l) where
+  pub part-length : length (part l n) ≡ n
+  unfolding part
+  part-length = simp (length-take, length-drop) (omega arith)
+
+  pub part-at : (x d : ℕ) → 1 ≤ x → x ≤ n → getD (part l n) (x - 1) d ≡ getD l x 0
+  unfolding part
+  part-at x d lo hi =
+      getD-take n (drop 1 l) (x - 1) d (omega arith) ∙ getD-drop 1 l (x - 1) d ∙ ap (λ (k : ℕ). getD l k d) (back x lo) ∙ default l x d 0 (omega arith)
+    where
+      back : (x : ℕ) → 1 ≤ x → 1 + (x - 1) ≡ x
+      back x h = omega arith
+
+  pub part-past : (x d : ℕ) → n < x → getD (part l n) (x - 1) d ≡ d
+  part-past x d h = List·getD-eq-default (part l n) d {n = x - 1} (omega (arith, part-length))
+
+module _ (events : List ℕ) (n : ℕ) (E : Events events n) (s x : ℕ) where
+  pub has-low : x < 1 → hasAt (part events n) s x ≡ false
+  unfolding hasAt
+  has-low h = simp (lt-leb 1 x h)
+
+  pub has-high : n < x → hasAt (part events n) s x ≡ false
+  unfolding hasAt
+  has-high h = rw (part-length events n (E .room)) (simp (lt-leb x n h, and-false))
+
+  pub has-in : 1 ≤ x → x ≤ n → hasAt (part events n) s x ≡ inSet s (getD events x 0)
+  unfolding hasAt
+  has-in lo hi = rw (part-length events n (E .room), part-at events n (E .room) x 0 lo hi) (simp (le-leb 1 x lo, le-leb x n hi))
+
+-- the laws of its run
+pub bare-laws : (events : List ℕ) (n : ℕ) → Events events n → Laws (runOf (logOf [] events n))
+bare-laws events n E = laws (logOf [] events n)
+    (getD-all (λ (e : ℕ). e < 32) 0 (part events n) (λ i h. let run = part-length events n (E .room) in
+    subst (λ (e : ℕ). e < 32) (sym (ap (λ (k : ℕ). getD (part events n) k 0) (shift i) ∙ part-at events n (E .room) (suc i) 0 (omega arith) (omega arith))) (E .small (suc i))))
+  where
+    shift : (i : ℕ) → i ≡ suc i - 1
+    shift i = omega arith
+
+pub seen-laws : (ticks events : List ℕ) (n : ℕ) → Held ticks events n → Laws (runAt ticks events n)
+seen-laws ticks events n H = let L = bare-laws events n (H .lines) in record { line = L .line; other = L .other }
+
+pub line-laws : (events : List ℕ) (n : ℕ) → Events events n → Laws (bare events n)
+line-laws events n E = let L = bare-laws events n E in record { line = L .line; other = L .other }
+
+-- Ticks
+
+pub tick-is : (ticks events : List ℕ) (n : ℕ) → n + 1 < length ticks → (x : ℕ) → tick (logOf ticks events n) x ≡ tickOf ticks n x
+unfolding tick tickOf
+tick-is ticks events n h x = go (order x 0) (order n x)
+  where
+    room : n < length ticks
+    room = omega arith
+
+    go : Order x 0 → Order n x → cond (eqb x 0) (getD ticks 0 0) (getD (part ticks n) (x - 1) (getD ticks (n + 1) 0)) ≡ cond (ltb n x) (getD ticks (n + 1) 0) (getD ticks x 0)
+    go (lower l) o = absurd (omega arith)
+    go (level e) (lower l) = absurd (omega arith)
+    go (level e) (level f) = rw (eq-eqb x 0 e, le-ltb n x (omega arith), e)
+    go (level e) (upper l) = rw (eq-eqb x 0 e, le-ltb n x (omega arith), e)
+    go (upper u) (lower l) = rw (ne-eqb x 0 (λ q. omega arith), lt-ltb n x l, part-past ticks n room x (getD ticks (n + 1) 0) l)
+    go (upper u) (level e) = rw (ne-eqb x 0 (λ q. omega arith), le-ltb n x (omega arith), part-at ticks n room x (getD ticks (n + 1) 0) (omega arith) (omega arith))
+    go (upper u) (upper l) = rw (ne-eqb x 0 (λ q. omega arith), le-ltb n x (omega arith), part-at ticks n room x (getD ticks (n + 1) 0) (omega arith) (omega arith))
+
+pub near-is : (ticks events : List ℕ) (n : ℕ) → n + 1 < length ticks → (x y lo hi : ℕ) → nearAt (logOf ticks events n) x y lo hi ≡ nearOf ticks n x y lo hi
+unfolding nearAt nearOf
+near-is ticks events n h x y lo hi = rw (tick-is ticks events n h x, tick-is ticks events n h y)
+
+pub tick-past : (ticks : List ℕ) (n x : ℕ) → n < x → tickOf ticks n x ≡ getD ticks (n + 1) 0
+unfolding tickOf
+tick-past ticks n x h = simp (lt-ltb n x h)
+
+pub tick-in : (ticks : List ℕ) (n x : ℕ) → x ≤ n → tickOf ticks n x ≡ getD ticks x 0
+unfolding tickOf
+tick-in ticks n x h = simp (le-ltb n x h)
+
+-- what is between lo and hi, up to k, fails
+abbrev pub Looked : (ℕ → Bool) → (lo hi k : ℕ) → Type 0
+Looked f lo hi k = (z : ℕ) → lo < z → z ≤ k → z < hi → f z ≡ false
+
+pub looked-more : (f : ℕ → Bool) (lo hi k : ℕ) → Looked f lo hi k → (k + 1 < hi → f (k + 1) ≡ false) → Looked f lo hi (k + 1)
+looked-more f lo hi k h m z a b c = go (order z (k + 1))
+  where
+    go : Order z (k + 1) → f z ≡ false
+    go (lower l) = h z a (omega arith) c
+    go (level e) = ap f e ∙ m (omega arith)
+    go (upper l) = absurd (omega arith)
+
+-- Between: lo and hi are the lower and the higher of the two
+
+module _ (events : List ℕ) (n : ℕ) (E : Events events n) (s x y : ℕ) where
+  within-between : (z : ℕ) → min x y < z → z < max x y → T (between x y z)
+  within-between z l h = go (order x y)
+    where
+      go : Order x y → T (between x y z)
+      go (lower o) = between-up {x = x} {y = y} {z = z} (omega arith) (omega arith)
+      go (level e) = absurd (omega arith)
+      go (upper o) = between-down {x = x} {y = y} {z = z} (omega arith) (omega arith)
+
+  between-within : (z : ℕ) → T (between x y z) → (min x y < z) × (z < max x y)
+  between-within z t = go (between-way x y z t)
+    where
+      go : Between x y z → (min x y < z) × (z < max x y)
+      go (up a b) = (omega arith, omega arith)
+      go (down a b) = (omega arith, omega arith)
+
+  -- one in between is enough
+  pub clear-no : (z : ℕ) → min x y < z → z < max x y → hasAt (part events n) s z ≡ true → clear (bare events n) s x y ≡ false
+  clear-no z l h t = is-false (clear (bare events n) s x y)
+      (not-T (clear (bare events n) s x y) (λ c. clear-get (bare events n) s x y (line-laws events n E) c z (within-between z l h) (subst T (sym t) tt)))
+
+  -- all were looked at
+  pub clear-yes : (k : ℕ) → max x y ≤ k → Looked (hasAt (part events n) s) (min x y) (max x y) k → clear (bare events n) s x y ≡ true
+  clear-yes k h f =
+      is-true (clear (bare events n) s x y) (clear-put (bare events n) s x y (λ z a t. let b = between-within z a in
+      subst T (f z (b .0) (omega arith) (b .1)) t))
+
+-- Distances
+
+module _ (ticks : List ℕ) (n x y lo hi d s t : ℕ) (es : s ≡ tickOf ticks n x) (et : t ≡ tickOf ticks n y) (ed : d ≡ gap s t) where
+  far-end : gap (tickOf ticks n x) (tickOf ticks n y) ≡ d
+  far-end = sym (ed ∙ ap₂ gap es et)
+
+  pub near-low : d < lo → nearOf ticks n x y lo hi ≡ false
+  unfolding nearOf
+  near-low h = rw far-end (simp (lt-leb lo d h))
+
+  pub near-high : lo ≤ d → nearOf ticks n x y lo hi ≡ leb d hi
+  unfolding nearOf
+  near-high h = rw far-end (simp (le-leb lo d h))

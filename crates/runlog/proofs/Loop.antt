@@ -1,0 +1,80 @@
+-- Lines one after another: what is left to read from a line on is the whole.
+-- Assumes nothing.
+use mathlib.Core.Path.{_≡_, sym, ap, _∙_}
+use mathlib.Core.List.{List}
+use Prim.Native.Nat.{ℕ, suc, _+_, _*_, _-_, _≤_, _<_}
+use native.Mathlib.Nat.{sub-zero}
+use native.Mathlib.Numerals.{add-one}
+use native.Mathlib.Omega.{arith}
+use lib.ListN.{length, take, drop, set, length-take, length-drop}
+use Rattle.runlog.specs.declared.LineRead.the-variants.{Refused, Line}
+use Rattle.runlog.specs.Log.{lineOf, Taken, stop, more, onLine, lineBytes, linesFrom, lay}
+
+module _ (s : List ℕ) (i n last : ℕ) (h : i < n) where
+  step : linesFrom s i (n - i) last
+      ≡ onLine (lineOf last (lineBytes s i)) (λ r. stop r (i + 1) last) (λ tick event. more tick event (linesFrom s (i + 1) (n - (i + 1)) tick))
+  unfolding linesFrom
+  step = let e : n - i ≡ suc (n - (i + 1)) = omega arith in rw (e, add-one i)
+
+  pub step-refused : (r : ℕ) → lineOf last (lineBytes s i) ≡ Refused r → linesFrom s i (n - i) last ≡ stop r (i + 1) last
+  step-refused r e = step ∙ rw e
+
+  pub step-on : (tick event : ℕ) → lineOf last (lineBytes s i) ≡ Line tick event → linesFrom s i (n - i) last ≡ more tick event (linesFrom s (i + 1) (n - (i + 1)) tick)
+  step-on tick event e = step ∙ rw e
+
+-- What is left from line i + 1 on, with the memory so far, is the whole.
+pub record Left (s : List ℕ) (n start i was : ℕ) (ts es ts₀ es₀ : List ℕ) : Type 0 where
+  pub number : linesFrom s i (n - i) was .number ≡ linesFrom s 0 n start .number
+  pub line : linesFrom s i (n - i) was .line ≡ linesFrom s 0 n start .line
+  pub last : linesFrom s i (n - i) was .last ≡ linesFrom s 0 n start .last
+  pub ticks : lay i (linesFrom s i (n - i) was .ticks) ts ≡ lay 0 (linesFrom s 0 n start .ticks) ts₀
+  pub events : lay i (linesFrom s i (n - i) was .events) es ≡ lay 0 (linesFrom s 0 n start .events) es₀
+
+abbrev pub Ends : (s : List ℕ) (n start r m l : ℕ) (ticks events ticks₀ events₀ : List ℕ) → Type 0
+Ends s n start r m l ticks events ticks₀ events₀ =
+    (r ≡ linesFrom s 0 n start .number) × ((m ≡ linesFrom s 0 n start .line) × ((l ≡ linesFrom s 0 n start .last)
+    × ((ticks ≡ lay 0 (linesFrom s 0 n start .ticks) ticks₀) × (events ≡ lay 0 (linesFrom s 0 n start .events) events₀))))
+
+module _ (s : List ℕ) (n start : ℕ) (ticks₀ events₀ : List ℕ) where
+  pub left-start : Left s n start 0 start ticks₀ events₀ ticks₀ events₀
+  left-start = record { number = rw sub-zero; line = rw sub-zero; last = rw sub-zero; ticks = rw sub-zero; events = rw sub-zero }
+
+  module _ (i last : ℕ) (ticks events : List ℕ) (L : Left s n start i last ticks events ticks₀ events₀) where
+    pub left-on : (tick event : ℕ) → i < n → lineOf last (lineBytes s i) ≡ Line tick event
+        → Left s n start (i + 1) tick (set ticks i tick) (set events i event) ticks₀ events₀
+    unfolding lay
+    left-on tick event h e =
+        let o = step-on s i n last h tick event e in
+        record {
+          number = sym (ap (λ (t : Taken). t .number) o) ∙ L .number;
+          line = sym (ap (λ (t : Taken). t .line) o) ∙ L .line;
+          last = sym (ap (λ (t : Taken). t .last) o) ∙ L .last;
+          ticks = rw (add-one i) (sym (ap (λ (t : Taken). lay i (t .ticks) ticks) o ∙ rw (add-one i)) ∙ L .ticks);
+          events = rw (add-one i) (sym (ap (λ (t : Taken). lay i (t .events) events) o ∙ rw (add-one i)) ∙ L .events);
+        }
+
+    pub left-stop : (r m : ℕ) → linesFrom s i (n - i) last ≡ stop r m last → Ends s n start r m last ticks events ticks₀ events₀
+    unfolding lay
+    left-stop r m o = (
+      sym (ap (λ (t : Taken). t .number) o) ∙ L .number,
+      (
+        sym (ap (λ (t : Taken). t .line) o) ∙ L .line,
+        (
+          sym (ap (λ (t : Taken). t .last) o) ∙ L .last,
+          (sym (ap (λ (t : Taken). lay i (t .ticks) ticks) o) ∙ L .ticks, sym (ap (λ (t : Taken). lay i (t .events) events) o) ∙ L .events),
+        ),
+      ),
+    )
+
+    pub left-none : n ≤ i → Ends s n start 0 0 last ticks events ticks₀ events₀
+    unfolding linesFrom
+    left-none h = let e : n - i ≡ 0 = omega arith in left-stop 0 0 (rw e)
+
+-- the part that is read as a line
+pub part-line : (s : List ℕ) (i : ℕ) → take (28 + 15 * i + 15 - (28 + 15 * i)) (drop (28 + 15 * i) s) ≡ lineBytes s i
+unfolding lineBytes
+part-line s i = let e : 28 + 15 * i + 15 - (28 + 15 * i) ≡ 15 = omega arith in rw e
+
+pub line-length : (s : List ℕ) (i n : ℕ) → i < n → 28 + 15 * n ≤ length s → length (lineBytes s i) ≡ 15
+unfolding lineBytes
+line-length s i n h l = simp (length-take, length-drop) (omega arith)

@@ -1,0 +1,41 @@
+-- Document 01's numbers for a log: its limits, and the refusals of "Read a log".
+-- Assumes nothing.
+use Prim.Native.Nat.{ℕ}
+
+abbrev pub most-lines : ℕ
+most-lines = 4000
+
+abbrev pub last-event : ℕ
+last-event = 31
+
+-- what a field of 11 columns holds at most
+abbrev pub last-tick : ℕ
+last-tick = 4294967295
+
+-- 21 first line short or malformed
+abbrev pub first-line-malformed : ℕ
+first-line-malformed = 21
+
+-- 22 n over 4,000
+abbrev pub too-many-lines : ℕ
+too-many-lines = 22
+
+-- 23 length is not 28 + 15n
+abbrev pub wrong-length : ℕ
+wrong-length = 23
+
+-- 24 line malformed
+abbrev pub line-malformed : ℕ
+line-malformed = 24
+
+-- 25 event over 31
+abbrev pub event-unknown : ℕ
+event-unknown = 25
+
+-- 26 tick below the one before
+abbrev pub tick-below : ℕ
+tick-below = 26
+
+-- 27 close below the last tick, or below the start if n is 0
+abbrev pub close-below : ℕ
+close-below = 27

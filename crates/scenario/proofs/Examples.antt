@@ -1,0 +1,208 @@
+-- Document 01's examples that need no bytes, as one table, computed by the definitions.
+-- Assumes nothing.
+use mathlib.Core.Path.{_≡_, refl}
+use mathlib.Core.Bool.{Bool, true, false, _&&_}
+use mathlib.Core.List.{List, [], _∷_, map}
+use Prim.Native.Nat.{ℕ}
+use native.Mathlib.Omega.{arith}
+use lib.ListN.{length}
+use lib.Dec.{eqb}
+use Rattle.scenario.specs.Rows.{Row, Run, point, next, last, earlier, before, same, free, within, event, complement, between, below, clear, meets, points, elem, brings, closure, end, denying-free, far-end, denying-rows, denials}
+use Rattle.scenario.specs.Sheet.{Sheet, lookup, env, all, flat, is-line, matching, choices, total, choose, count, chosen, antiscenario, Answer, nothing, found, Demand}
+use Rattle.scenario.specs.Log.{Log, inSet, hasAt, tick, nearAt, runOf}
+use Rattle.scenario.specs.Walk.{placing, lowest-above, highest-below, advance, walk}
+use Rattle.scenario.specs.Search.{sweep, least, smallest-matching, is-violating, check, faults}
+use Rattle.scenario.specs.Fields.{fields, Tagged, tagged, written}
+use Rattle.scenario.specs.Reading.{SheetRead, antecedent, own}
+use Rattle.scenario.proofs.Final.{demand-three}
+
+-- Sheets and logs. Events: 1 injection, 2 correction, 3 scan.
+
+S : Sheet
+S = record { antecedent = point 1 8 ∷ []; consequents = (last 11 1 4 ∷ within 11 1 0 500 ∷ free 11 1 2 ∷ []) ∷ [] }
+
+-- k = 0, no rows; and k = 1, that consequent empty
+no-rows : Sheet
+no-rows = record { antecedent = []; consequents = [] }
+
+empty-consequent : Sheet
+empty-consequent = record { antecedent = []; consequents = [] ∷ [] }
+
+-- points 1 and 2 both with set 8, consequent BEFORE 1 2
+two-scans : Sheet
+two-scans = record { antecedent = point 1 8 ∷ point 2 8 ∷ []; consequents = (before 1 2 ∷ []) ∷ [] }
+
+-- six consequents, five of four denials
+four-denials : List Row
+four-denials = before 1 2 ∷ before 2 1 ∷ []
+
+five-denials : List Row
+five-denials = same 1 2 ∷ four-denials
+
+six : (consequent : List Row) → Sheet
+six c = record { antecedent = point 1 8 ∷ point 2 8 ∷ []; consequents = four-denials ∷ four-denials ∷ four-denials ∷ four-denials ∷ four-denials ∷ c ∷ [] }
+
+-- a consequent whose EVENT rows use 12, which needs nothing of the section, and 13, which needs 11 and 12
+chained : Sheet
+chained = record {
+  antecedent = point 1 8 ∷ [];
+  consequents = (next 11 1 4 ∷ next 12 1 2 ∷ earlier 13 11 12 ∷ next 14 1 1 ∷ event 12 4 ∷ event 13 4 ∷ []) ∷ [];
+}
+
+-- two consequents of two denials
+two-by-two : Sheet
+two-by-two = record { antecedent = point 1 8 ∷ point 2 8 ∷ []; consequents = (before 1 2 ∷ []) ∷ (before 2 1 ∷ []) ∷ [] }
+
+-- a log that starts at 0 and closes at a given tick
+log : (close : ℕ) (ticks events : List ℕ) → Log
+log c ts es = record { start = 0; close = c; ticks = ts; events = es }
+
+three-lines : (tick : ℕ) → Log
+three-lines t = log t (100 ∷ 300 ∷ t ∷ []) (2 ∷ 3 ∷ 3 ∷ [])
+
+one-scan : Log
+one-scan = log 10 (10 ∷ []) (3 ∷ [])
+
+no-lines : Log
+no-lines = log 0 [] []
+
+injected : Log
+injected = log 300 (100 ∷ 200 ∷ 300 ∷ []) (2 ∷ 1 ∷ 3 ∷ [])
+
+-- What is asked, and the answer as lines of numbers
+
+data Question : Type 0 where
+  count-of : Sheet → Question
+  rows-of : Sheet → (m : ℕ) → Question
+  search-of : Sheet → (m : ℕ) → Log → Question
+  check-of : Sheet → Log → Question
+
+-- section kind p q a b
+row-line : Tagged → List ℕ
+row-line t = let f = fields (t .row) in t .section ∷ f .kind ∷ f .p ∷ f .q ∷ f .a ∷ f .b ∷ []
+
+-- nothing for none
+search-lines : Answer → List (List ℕ)
+search-lines nothing = []
+search-lines (found zs) = zs ∷ []
+
+-- 0 for holds; 1 for violated, then the positions, then the rows at fault
+check-lines : Run → Sheet → Answer → List (List ℕ)
+check-lines run sheet nothing = (0 ∷ []) ∷ []
+check-lines run sheet (found xs) = (1 ∷ []) ∷ xs ∷ faults run sheet xs (length (sheet .antecedent)) (sheet .consequents) ∷ []
+
+answer : Question → List (List ℕ)
+answer (count-of sheet) = (count sheet ∷ []) ∷ []
+answer (rows-of sheet m) = map row-line (written sheet m)
+answer (search-of sheet m g) = search-lines (smallest-matching (runOf g) (antiscenario sheet m))
+answer (check-of sheet g) = check-lines (runOf g) sheet (check (runOf g) sheet)
+
+record Case : Type 0 where
+  pub question : Question
+  pub expected : List (List ℕ)
+
+is : Question → List (List ℕ) → Case
+is q l = record { question = q; expected = l }
+
+cases : List Case
+cases =
+    is (count-of S) ((4 ∷ []) ∷ [])
+    ∷ is (rows-of S 3)
+    ((0 ∷ 1 ∷ 1 ∷ 0 ∷ 8 ∷ 0 ∷ [])
+    ∷ (1 ∷ 3 ∷ 11 ∷ 1 ∷ 4 ∷ 0 ∷ [])
+    ∷ (1 ∷ 1 ∷ 19 ∷ 0 ∷ 2 ∷ 0 ∷ [])
+    ∷ (1 ∷ 6 ∷ 11 ∷ 19 ∷ 0 ∷ 0 ∷ [])
+    ∷ (1 ∷ 6 ∷ 19 ∷ 1 ∷ 0 ∷ 0 ∷ [])
+    ∷ [])
+    ∷ is (rows-of S 4)
+    ((0 ∷ 1 ∷ 1 ∷ 0 ∷ 8 ∷ 0 ∷ [])
+    ∷ (1 ∷ 3 ∷ 11 ∷ 1 ∷ 4 ∷ 0 ∷ [])
+    ∷ (1 ∷ 1 ∷ 19 ∷ 0 ∷ 2 ∷ 0 ∷ [])
+    ∷ (1 ∷ 6 ∷ 1 ∷ 19 ∷ 0 ∷ 0 ∷ [])
+    ∷ (1 ∷ 6 ∷ 19 ∷ 11 ∷ 0 ∷ 0 ∷ [])
+    ∷ [])
+    ∷ is (check-of S (three-lines 900)) ((1 ∷ []) ∷ (3 ∷ []) ∷ (3 ∷ []) ∷ [])
+    ∷ is (search-of S 2 (three-lines 900)) ((3 ∷ 1 ∷ []) ∷ [])
+    ∷ is (check-of S (three-lines 600)) ((0 ∷ []) ∷ [])
+    ∷ is (check-of S (three-lines 601)) ((1 ∷ []) ∷ (3 ∷ []) ∷ (3 ∷ []) ∷ [])
+    ∷ is (check-of S one-scan) ((1 ∷ []) ∷ (1 ∷ []) ∷ (2 ∷ []) ∷ [])
+    ∷ is (check-of S injected) ((1 ∷ []) ∷ (3 ∷ []) ∷ (4 ∷ []) ∷ [])
+    ∷ is (search-of S 3 injected) ((3 ∷ 1 ∷ 2 ∷ []) ∷ [])
+    ∷ is (check-of S no-lines) ((0 ∷ []) ∷ [])
+    ∷ is (count-of no-rows) ((1 ∷ []) ∷ [])
+    ∷ is (check-of no-rows no-lines) ((1 ∷ []) ∷ [] ∷ [] ∷ [])
+    ∷ is (count-of empty-consequent) ((0 ∷ []) ∷ [])
+    ∷ is (check-of empty-consequent one-scan) ((0 ∷ []) ∷ [])
+    ∷ is (search-of two-scans 1 one-scan) []
+    ∷ is (search-of two-scans 2 one-scan) ((1 ∷ 1 ∷ []) ∷ [])
+    ∷ is (check-of two-scans one-scan) ((1 ∷ []) ∷ (1 ∷ 1 ∷ []) ∷ (3 ∷ []) ∷ [])
+    ∷ is (count-of (six four-denials)) ((4096 ∷ []) ∷ [])
+    ∷ is (count-of (six five-denials)) ((5120 ∷ []) ∷ [])
+    ∷ is (rows-of two-by-two 2)
+    ((0 ∷ 1 ∷ 1 ∷ 0 ∷ 8 ∷ 0 ∷ []) ∷ (0 ∷ 1 ∷ 2 ∷ 0 ∷ 8 ∷ 0 ∷ []) ∷ (1 ∷ 6 ∷ 2 ∷ 1 ∷ 0 ∷ 0 ∷ []) ∷ (2 ∷ 8 ∷ 2 ∷ 1 ∷ 0 ∷ 0 ∷ []) ∷ [])
+    ∷ is (count-of chained) ((5 ∷ []) ∷ [])
+    ∷ is (rows-of chained 4) ((0 ∷ 1 ∷ 1 ∷ 0 ∷ 8 ∷ 0 ∷ []) ∷ (1 ∷ 2 ∷ 12 ∷ 1 ∷ 2 ∷ 0 ∷ []) ∷ (1 ∷ 12 ∷ 12 ∷ 0 ∷ 4294967291 ∷ 0 ∷ []) ∷ [])
+    ∷ is (rows-of chained 5)
+    ((0 ∷ 1 ∷ 1 ∷ 0 ∷ 8 ∷ 0 ∷ [])
+    ∷ (1 ∷ 2 ∷ 11 ∷ 1 ∷ 4 ∷ 0 ∷ [])
+    ∷ (1 ∷ 2 ∷ 12 ∷ 1 ∷ 2 ∷ 0 ∷ [])
+    ∷ (1 ∷ 4 ∷ 13 ∷ 11 ∷ 12 ∷ 0 ∷ [])
+    ∷ (1 ∷ 12 ∷ 13 ∷ 0 ∷ 4294967291 ∷ 0 ∷ [])
+    ∷ [])
+    ∷ []
+
+same-line : (xs ys : List ℕ) → Bool
+same-line [] [] = true
+same-line [] (y ∷ ys) = false
+same-line (x ∷ xs) [] = false
+same-line (x ∷ xs) (y ∷ ys) = eqb x y && same-line xs ys
+
+same-lines : (a b : List (List ℕ)) → Bool
+same-lines [] [] = true
+same-lines [] (y ∷ ys) = false
+same-lines (x ∷ xs) [] = false
+same-lines (x ∷ xs) (y ∷ ys) = same-line x y && same-lines xs ys
+
+passes : Case → Bool
+passes c = same-lines (answer (c .question)) (c .expected)
+
+-- Every case of the table is as document 01 says.
+examples : all passes cases ≡ true
+unfolding cases passes same-lines same-line is answer check-lines search-lines row-line S no-rows empty-consequent two-scans four-denials five-denials six two-by-two chained
+    log three-lines one-scan no-lines injected fields tagged written count chosen antiscenario choose flat total choices denials far-end denying-rows denying-free end
+    closure brings elem complement smallest-matching check is-violating faults walk advance placing lowest-above highest-below least sweep
+    matching all is-line meets env lookup points clear below between inSet hasAt tick nearAt
+examples = refl
+
+-- k = 0 and no rows: violated on every log; an empty consequent: holds on every log.
+violated-without-rows : (g : Log) → check (runOf g) no-rows ≡ found []
+unfolding no-rows check is-violating least matching all points env
+violated-without-rows g = refl
+
+holds-with-empty : (g : Log) → check (runOf g) empty-consequent ≡ nothing
+unfolding empty-consequent check is-violating walk least matching all points env
+holds-with-empty g = refl
+
+-- S is a sheet that reading checks, so demand 3 holds of it on the logs of three lines.
+S-read : SheetRead S
+unfolding S points
+S-read = record {
+  numbers = (refl, tt);
+  few = omega arith;
+  uses = (tt, tt);
+  consequents = (
+    (
+      record { valid = tt; due = ((refl, omega arith), tt); known = (antecedent (omega arith) (omega arith), tt) },
+      (
+        record { valid = tt; due = tt; known = (own (omega arith) (omega arith), (antecedent (omega arith) (omega arith), tt)) },
+        (record { valid = tt; due = tt; known = (own (omega arith) (omega arith), (antecedent (omega arith) (omega arith), tt)) }, tt),
+      ),
+    ),
+    tt,
+  );
+  count = omega arith;
+}
+
+S-demand : (t : ℕ) → Demand (runOf (three-lines t)) S (check (runOf (three-lines t)) S) (λ m. smallest-matching (runOf (three-lines t)) (antiscenario S m))
+unfolding three-lines log
+S-demand t = demand-three (three-lines t) (omega arith, (omega arith, (omega arith, tt))) S S-read

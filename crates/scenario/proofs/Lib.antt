@@ -1,0 +1,28 @@
+-- The theorems: Final states them of every sheet and log that are read; the others are on the way there.
+-- Tests and lists; rows, one consequent, all consequents.
+pub mod Base
+pub mod Rules
+pub mod Section
+pub mod Points
+pub mod Far
+pub mod Product
+pub mod Glue
+pub mod Place
+-- Demand 3 of sound sheets, and the check's rows at fault.
+pub mod Agreement
+pub mod Extension
+pub mod Faults
+pub mod Demand
+pub mod Least
+pub mod Whole
+-- Sheets and logs that are read.
+pub mod Logs
+pub mod Reading
+pub mod Final
+-- What stands beside: denials, patterns, at most one extension, a search's steps, rows and numbers, and the paper's examples.
+pub mod Closure
+pub mod Patterns
+pub mod Unique
+pub mod Prefix
+pub mod Numbers
+pub mod Examples

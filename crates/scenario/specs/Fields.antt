@@ -1,0 +1,58 @@
+-- A row's numbers, as a sheet has them, and the rows of an antiscenario with their sections, as it is written. Document 01, "Sheet" and "Antiscenarios".
+-- Assumes nothing.
+use mathlib.Core.Option.{Option, none, some}
+use mathlib.Core.List.{List, [], _∷_, _++_, map}
+use Prim.Native.Nat.{ℕ, suc}
+use lib.ListN.{getD}
+use Rattle.scenario.specs.Rows.{Row, point, next, last, earlier, later, before, apart, same, free, within, outside, event}
+use Rattle.scenario.specs.Sheet.{Sheet, chosen}
+
+-- "kind (3), p (3), q (3), a (11), b (11)"
+pub record Fields : Type 0 where
+  pub kind : ℕ
+  pub p : ℕ
+  pub q : ℕ
+  pub a : ℕ
+  pub b : ℕ
+
+abbrev pub five : (kind p q a b : ℕ) → Fields
+five kind p q a b = record { kind = kind; p = p; q = q; a = a; b = b }
+
+-- "Fields a kind doesn't mention are 0."
+unfoldable pub fields : Row → Fields
+fields (point p s) = five 1 p 0 s 0
+fields (next p q s) = five 2 p q s 0
+fields (last p q s) = five 3 p q s 0
+fields (earlier p q a) = five 4 p q a 0
+fields (later p q a) = five 5 p q a 0
+fields (before p q) = five 6 p q 0 0
+fields (apart p q) = five 7 p q 0 0
+fields (same p q) = five 8 p q 0 0
+fields (free p q s) = five 9 p q s 0
+fields (within p q lo hi) = five 10 p q lo hi
+fields (outside p q lo hi) = five 11 p q lo hi
+fields (event p s) = five 12 p 0 s 0
+
+-- the row of a kind, with the fields it mentions: a table by kind, from 0
+unfoldable pub rowOf : Fields → Option Row
+rowOf f =
+    getD
+    (none ∷ some (point (f .p) (f .a)) ∷ some (next (f .p) (f .q) (f .a)) ∷ some (last (f .p) (f .q) (f .a))
+    ∷ some (earlier (f .p) (f .q) (f .a)) ∷ some (later (f .p) (f .q) (f .a)) ∷ some (before (f .p) (f .q)) ∷ some (apart (f .p) (f .q))
+    ∷ some (same (f .p) (f .q)) ∷ some (free (f .p) (f .q) (f .a)) ∷ some (within (f .p) (f .q) (f .a) (f .b))
+    ∷ some (outside (f .p) (f .q) (f .a) (f .b)) ∷ some (event (f .p) (f .a)) ∷ [])
+    (f .kind) none
+
+-- a row "with the section it came from"
+pub record Tagged : Type 0 where
+  pub section : ℕ
+  pub row : Row
+
+-- the rows of lists for the sections from number i on
+unfoldable pub tagged : ℕ → List (List Row) → List Tagged
+tagged i [] = []
+tagged i (l ∷ ls) = map (λ r. record { section = i; row = r }) l ++ tagged (suc i) ls
+
+-- "It is written as .. rows, each with the section it came from": antiscenario m.
+unfoldable pub written : Sheet → ℕ → List Tagged
+written sheet m = tagged 0 (sheet .antecedent ∷ chosen sheet m)

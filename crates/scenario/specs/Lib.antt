@@ -1,0 +1,9 @@
+-- What document 01's terms mean, in the order in which to read them beside it.
+pub mod Rows
+pub mod Log
+pub mod Denials
+pub mod Sheet
+pub mod Fields
+pub mod Walk
+pub mod Search
+pub mod Reading

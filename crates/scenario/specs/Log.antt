@@ -1,0 +1,34 @@
+-- A log, and the run that rows see of it. Document 01, "Log".
+-- Assumes nothing.
+use mathlib.Core.Bool.{Bool, _&&_, cond}
+use mathlib.Core.List.{List}
+use Prim.Native.Nat.{ℕ, _+_, _-_, _/_, _%_, _^_}
+use lib.ListN.{length, getD}
+use lib.Dec.{leb, eqb}
+use Rattle.scenario.specs.Rows.{Run}
+
+-- "start tick, close tick; then n lines: tick, event"
+pub record Log : Type 0 where
+  pub start : ℕ
+  pub close : ℕ
+  pub ticks : List ℕ
+  pub events : List ℕ
+
+-- "A set of events is the sum of 2^e over its events e": e is in the set s.
+unfoldable pub inSet : (s e : ℕ) → Bool
+inSet s e = eqb (s / 2 ^ e % 2) 1
+
+-- "The n lines have positions 1 to n": x is one of them, and its event is in s.
+unfoldable pub hasAt : List ℕ → (s x : ℕ) → Bool
+hasAt events s x = leb 1 x && leb x (length events) && inSet s (getD events (x - 1) 0)
+
+-- "Position 0 is the start with the start tick, position n + 1 the close with the close tick": the tick of position x.
+unfoldable pub tick : Log → ℕ → ℕ
+tick log x = cond (eqb x 0) (log .start) (getD (log .ticks) (x - 1) (log .close))
+
+-- "the distance of the ticks of p and q, without sign, is from a to b, both included"
+unfoldable pub nearAt : Log → (x y lo hi : ℕ) → Bool
+nearAt log x y lo hi = let d = tick log x - tick log y + (tick log y - tick log x) in leb lo d && leb d hi
+
+abbrev pub runOf : Log → Run
+runOf log = record { lines = length (log .events); has = hasAt (log .events); near = nearAt log }

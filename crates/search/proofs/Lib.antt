@@ -1,0 +1,9 @@
+pub mod Steps
+pub mod Jump
+pub mod Found
+pub mod Preparing
+pub mod Finding
+pub mod Matchings
+pub mod Turn
+pub mod Searching
+pub mod Following

@@ -1,0 +1,61 @@
+-- Search antiscenario m over bytes: what it says, and what the lent places hold afterwards.
+-- Assumes nothing.
+use mathlib.Core.Path.{_≡_}
+use mathlib.Core.Logic.{_↔_}
+use mathlib.Core.Bool.{cond, _&&_, not, false, true, Bool}
+use mathlib.Core.List.{List, _++_}
+use Prim.Native.Nat.{ℕ}
+use lib.ListN.{length, drop}
+use lib.Dec.{eqb, leb, ltb, T}
+use Rattle.scenario.specs.Rows.{Row, Run, points}
+use Rattle.scenario.specs.Sheet.{Answer, antiscenario, matching, Smallest}
+use Rattle.scenario.specs.Search.{smallest-matching}
+use Rattle.sheet.specs.Reading.{answer as sheet-answer, sheetIn, countIn}
+use Rattle.runlog.specs.Log.{answer as log-answer, runIn}
+use Rattle.search.specs.declared.SearchAnswer.{SearchAnswer}
+use Rattle.search.specs.Matching.{filled, isFound}
+
+-- the refusal or 0, whether a matching was found, and what the lent places hold afterwards
+pub record Searched : Type 0 where
+  pub refusal : ℕ
+  pub hit : Bool
+  pub places : List ℕ
+
+-- the answer that the code gives, with what it leaves in the lent places
+abbrev pub answered : SearchAnswer → List ℕ → Searched
+answered r places = record { refusal = r .refusal; hit = r .hit; places = places }
+
+abbrev pub unsearched : ℕ → List ℕ → Searched
+unsearched refusal places = record { refusal = refusal; hit = false; places = places }
+
+abbrev pub searched : List ℕ → Answer → Searched
+searched places a = record { refusal = 0; hit = isFound a; places = filled places a }
+
+-- 33 fewer places lent than points; else the smallest matching of the rows, or none
+abbrev pub searchRows : Run → List Row → (places : List ℕ) → Searched
+searchRows run rs places = cond (ltb (length places) (length (points rs))) (unsearched 33 places) (searched places (smallest-matching run rs))
+
+-- the sheet's refusals, the log's, 31 m not in 1 to N; else the search of the antiscenario's rows
+unfoldable pub searchOf : (s l : List ℕ) (m : ℕ) (places : List ℕ) → Searched
+searchOf s l m places =
+    cond (not (eqb (sheet-answer s .refusal) 0)) (unsearched (sheet-answer s .refusal) places)
+    (cond (not (eqb (log-answer l .refusal) 0)) (unsearched (log-answer l .refusal) places)
+    (cond (not (leb 1 m && leb m (countIn s))) (unsearched 31 places)
+    (searchRows (runIn l) (antiscenario (sheetIn s) m) places)))
+
+-- a search says "none", and leaves all places as they were
+pub record SaysNone (r : Searched) (places : List ℕ) : Type 0 where
+  pub accepted : r .refusal ≡ 0
+  pub none : r .hit ≡ false
+  pub kept : r .places ≡ places
+
+-- zs is a matching of antiscenario m of the sheet s on the log l
+abbrev pub Matches : (s l : List ℕ) (m : ℕ) → List ℕ → Type 0
+Matches s l m zs = T (matching (runIn l) (antiscenario (sheetIn s) m) zs)
+
+-- What a search that is not refused says: "none" exactly if no matching exists, with all places left; else the smallest matching, by the order of placements,
+-- at the front of the places and those after it kept.
+pub record Told (s l : List ℕ) (m : ℕ) (places : List ℕ) (r : Searched) : Type 0 where
+  pub none : r .hit ≡ false ↔ ((zs : List ℕ) → Matches s l m zs → ⊥)
+  pub kept : r .hit ≡ false → r .places ≡ places
+  pub smallest : r .hit ≡ true → (xs : List ℕ) × Smallest (Matches s l m) xs × (r .places ≡ xs ++ drop (length xs) places)

@@ -1,0 +1,93 @@
+-- N is the product over the rows: a row's denials, a section's, and all sections'.
+-- Assumes nothing.
+use mathlib.Core.Path.{_≡_, refl, sym, ap₂, _∙_}
+use mathlib.Core.Bool.{Bool, true, false, cond}
+use mathlib.Core.List.{List, [], _∷_, _++_, map}
+use Prim.Native.Nat.{ℕ, zero, suc, _+_, _*_}
+use native.Mathlib.Omega.{arith}
+use lib.ListN.{length, length-append, length-map}
+use lib.Dec.{eqb}
+use borrow.Author.Tests.{eqb-true, eqb-false, ne-eqb}
+use Rattle.scenario.specs.Rows.{Row, denying-rows, denying-free, end, closure, needs, denials, far-end}
+use Rattle.scenario.specs.Fields.{five, rowOf}
+use Rattle.scenario.specs.Sheet.{choices, total, count}
+use Rattle.sheet.specs.declared.Line.{Line}
+use Rattle.sheet.specs.Reading.{orSame, rowIn, section, sections, sheetOf}
+use Rattle.sheet.specs.Memory.{edge, weightFree, weight, weighLine, weighed, product}
+use Rattle.sheet.proofs.Count.{weight-high}
+
+-- by kind: 0, 1 to 12, and above
+pub any-kind : (P : ℕ → Type 0) → P 0 → P 1 → P 2 → P 3 → P 4 → P 5 → P 6 → P 7 → P 8 → P 9 → P 10 → P 11 → P 12
+    → ((k : ℕ) → P (suc (suc (suc (suc (suc (suc (suc (suc (suc (suc (suc (suc (suc k)))))))))))))) → (k : ℕ) → P k
+any-kind P z a b c d e f g h i j l m n zero = z
+any-kind P z a b c d e f g h i j l m n (suc zero) = a
+any-kind P z a b c d e f g h i j l m n (suc (suc zero)) = b
+any-kind P z a b c d e f g h i j l m n (suc (suc (suc zero))) = c
+any-kind P z a b c d e f g h i j l m n (suc (suc (suc (suc zero)))) = d
+any-kind P z a b c d e f g h i j l m n (suc (suc (suc (suc (suc zero))))) = e
+any-kind P z a b c d e f g h i j l m n (suc (suc (suc (suc (suc (suc zero)))))) = f
+any-kind P z a b c d e f g h i j l m n (suc (suc (suc (suc (suc (suc (suc zero))))))) = g
+any-kind P z a b c d e f g h i j l m n (suc (suc (suc (suc (suc (suc (suc (suc zero)))))))) = h
+any-kind P z a b c d e f g h i j l m n (suc (suc (suc (suc (suc (suc (suc (suc (suc zero))))))))) = i
+any-kind P z a b c d e f g h i j l m n (suc (suc (suc (suc (suc (suc (suc (suc (suc (suc zero)))))))))) = j
+any-kind P z a b c d e f g h i j l m n (suc (suc (suc (suc (suc (suc (suc (suc (suc (suc (suc zero))))))))))) = l
+any-kind P z a b c d e f g h i j l m n (suc (suc (suc (suc (suc (suc (suc (suc (suc (suc (suc (suc zero)))))))))))) = m
+any-kind P z a b c d e f g h i j l m n (suc (suc (suc (suc (suc (suc (suc (suc (suc (suc (suc (suc (suc k))))))))))))) = n k
+
+-- FREE, by the ends
+module _ (r p q s : ℕ) where
+  free-go : (a b c d : Bool) → eqb p 0 ≡ a → eqb p 99 ≡ b → eqb q 0 ≡ c → eqb q 99 ≡ d → length (denying-free r p q s (end p) (end q)) ≡ weightFree p q
+  unfolding denying-free end weightFree edge
+  free-go true b true d ep fp eq fq = rw (eqb-true p 0 ep, eqb-true q 0 eq)
+  free-go true b false true ep fp eq fq = rw (eqb-true p 0 ep, eqb-true q 99 fq)
+  free-go true b false false ep fp eq fq = rw (eqb-true p 0 ep) (simp (eq, fq, ne-eqb 0 q (λ e. eqb-false q 0 eq (sym e))))
+  free-go false true true d ep fp eq fq = rw (eqb-true p 99 fp, eqb-true q 0 eq)
+  free-go false true false true ep fp eq fq = rw (eqb-true p 99 fp, eqb-true q 99 fq)
+  free-go false true false false ep fp eq fq = rw (eqb-true p 99 fp) (simp (eq, fq, ne-eqb 99 q (λ e. eqb-false q 99 fq (sym e))))
+  free-go false false true d ep fp eq fq = simp (ep, fp, eq)
+  free-go false false false true ep fp eq fq = simp (ep, fp, eq, fq)
+  free-go false false false false ep fp eq fq = simp (ep, fp, eq, fq)
+
+  free-weight : length (denying-free r p q s (end p) (end q)) ≡ weightFree p q
+  free-weight = free-go (eqb p 0) (eqb p 99) (eqb q 0) (eqb q 99) refl refl refl refl
+
+-- a row's denials
+module _ (z r : ℕ) where
+  abbrev Weighs : (p q a b k : ℕ) → Type 0
+  Weighs p q a b k = length (denying-rows z r (orSame (rowOf (five k p q a b)))) ≡ weight k p q
+
+  weighs : (p q a b k : ℕ) → Weighs p q a b k
+  unfolding orSame rowOf denying-rows weight
+  weighs p q a b =
+      any-kind (Weighs p q a b) refl refl refl refl refl refl refl refl refl (free-weight r p q a) refl refl refl
+      (λ k. weight-high (suc (suc (suc (suc (suc (suc (suc (suc (suc (suc (suc (suc (suc k))))))))))))) p q (omega arith) (λ e. omega arith) (λ e. omega arith))
+
+  pub line-weight : (l : Line) → length (denying-rows z r (rowIn l)) ≡ weight (l .kind) (l .p) (l .q)
+  unfolding rowIn
+  line-weight l = weighs (l .p) (l .q) (l .a) (l .b) (l .kind)
+
+-- a section's denials
+module _ (z : Row → ℕ) (r i : ℕ) where
+  section-weight : (ls : List Line) (ks : List Row) → length (denials z r ks (section i ls)) ≡ weighed i ls
+  unfolding denials section weighed weighLine
+  section-weight [] ks = refl
+  section-weight (l ∷ ls) ks = go (eqb (l .section) i) (section-weight ls)
+    where
+      go : (b : Bool) → ((ks : List Row) → length (denials z r ks (section i ls)) ≡ weighed i ls)
+          → length (denials z r ks (cond b (rowIn l ∷ section i ls) (section i ls))) ≡ cond b (weight (l .kind) (l .p) (l .q)) 0 + weighed i ls
+      go true f =
+          length-append (map (λ d. closure ks (needs (rowIn l)) ++ d) (denying-rows (z (rowIn l)) r (rowIn l))) (denials z r (rowIn l ∷ ks) (section i ls))
+          ∙ ap₂ _+_ (length-map (denying-rows (z (rowIn l)) r (rowIn l)) (λ d. closure ks (needs (rowIn l)) ++ d) ∙ line-weight (z (rowIn l)) r l) (f (rowIn l ∷ ks))
+      go false f = omega (arith, f ks)
+
+-- all sections'
+pub choices-product : (antecedent : List Row) (ls : List Line) (left i : ℕ) → total (choices antecedent i (sections i left ls)) ≡ product i left ls
+unfolding total choices sections product
+choices-product antecedent ls zero i = refl
+choices-product antecedent ls (suc left) i =
+    ap₂ _*_ (section-weight (far-end antecedent (section i ls)) (10 * i + 9) i ls []) (choices-product antecedent ls left (suc i))
+
+-- N
+pub count-product : (k : ℕ) (ls : List Line) → count (sheetOf k ls) ≡ product 1 k ls
+unfolding count sheetOf
+count-product k ls = choices-product (section 0 ls) ls k 1

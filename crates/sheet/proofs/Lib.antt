@@ -1,0 +1,14 @@
+pub mod Arms
+pub mod Loop
+pub mod Count
+pub mod Store
+pub mod Denials
+pub mod Whole
+pub mod Points
+pub mod Accepted
+pub mod Room
+pub mod Theorems
+pub mod Texts
+pub mod Values
+pub mod OneText
+pub mod Examples

@@ -1,0 +1,53 @@
+-- `product_of` meets its contract: the product so far and what is left make the whole.
+-- Assumes nothing.
+use borrow.Author.Needs.{needs}
+use mathlib.Core.Path.{_≡_, sym, _∙_}
+use Prim.Native.Nat.{_+_, _*_, _^_, _≤_, _-_}
+use native.Mathlib.Nat.{sub-zero}
+use native.Mathlib.Omega.{arith}
+use lib.Dec.{lit≤}
+use Rattle.sheet.specs.Memory.{product, linesIn}
+use Rattle.sheet.proofs.Count.{product-step, product-end, power-step, power-fits}
+use Rattle.sheet.proofs.product_of.Statement.{statement}
+use Rattle.sheet.proofs.product_of.Tie as tie
+
+abbrev Inv-loop : tie.InvT-loop
+Inv-loop rows n k total₀ i₀ total i =
+    (i ≤ k) × (total ≤ 352 ^ i) × (total * product (i + 1) (k - i) (linesIn rows 0 n) ≡ product 1 k (linesIn rows 0 n))
+
+abbrev μ-loop : tie.MeasureT-loop
+μ-loop rows n k total₀ i₀ total i = k - i
+
+loop-holds : tie.Need-loop-holds Inv-loop μ-loop
+loop-holds c = (search needs, lit≤ tt, rw sub-zero (omega arith))
+
+multiplied-requires : tie.Need-multiplied-requires Inv-loop μ-loop
+multiplied-requires c κs =
+    let l = c .before .before .loop in
+    power-fits (l .i) (l .total) _ (l .inv .1) (c .denials-of .ensures .1) (search needs)
+
+loop-again : tie.Need-loop-again Inv-loop μ-loop
+loop-again c =
+    let d = c .before in
+    let l = d .before .before .loop in (
+      search needs,
+      rw (c .multiplied .ensures) (power-step (l .i) (l .total) _ (l .inv .1) (d .denials-of .ensures .1)),
+      rw (c .multiplied .ensures, d .denials-of .ensures .0) (sym (product-step _ _ _ _ (search needs)) ∙ l .inv .2),
+    )
+
+returns : tie.Need-returns Inv-loop μ-loop
+returns c = product-end _ _ _ _ (c .loop-test .left) ∙ c .before .loop .inv .2
+
+pub product-of-spec : {M : Type 1} → statement M
+product-of-spec =
+    tie.close
+    (tie.spec
+    Inv-loop
+    μ-loop
+    loop-holds
+    (λ c. search needs)
+    (λ c κs. search needs)
+    multiplied-requires
+    (λ c. search needs)
+    loop-again
+    returns)

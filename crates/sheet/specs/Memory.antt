@@ -1,0 +1,57 @@
+-- Rows in memory, six numbers to a row, and N as a product over them.
+-- Assumes nothing.
+use mathlib.Core.Bool.{Bool, cond, _||_, _&&_}
+use mathlib.Core.List.{List, [], _∷_}
+use Prim.Native.Nat.{ℕ, zero, suc, _+_, _*_}
+use lib.ListN.{getD, set}
+use lib.Dec.{leb, eqb}
+use Rattle.sheet.specs.declared.Line.{Line}
+use Rattle.sheet.specs.Row.{six}
+
+-- the memory with a row stored as number i, from 0
+unfoldable pub put : ℕ → Line → List ℕ → List ℕ
+put i l m =
+    set (set (set (set (set (set m (6 * i) (l .section)) (6 * i + 1) (l .kind)) (6 * i + 2) (l .p)) (6 * i + 3) (l .q)) (6 * i + 4) (l .a)) (6 * i + 5) (l .b)
+
+-- rows stored from number i on
+unfoldable pub lay : ℕ → List Line → List ℕ → List ℕ
+lay i [] m = m
+lay i (l ∷ ls) m = lay (suc i) ls (put i l m)
+
+-- the row with number i, and `left` rows from number i on
+unfoldable pub lineIn : List ℕ → ℕ → Line
+lineIn m i =
+    six (getD m (6 * i) 0) (getD m (6 * i + 1) 0) (getD m (6 * i + 2) 0) (getD m (6 * i + 3) 0) (getD m (6 * i + 4) 0) (getD m (6 * i + 5) 0)
+
+unfoldable pub linesIn : List ℕ → (i left : ℕ) → List Line
+linesIn m i zero = []
+linesIn m i (suc left) = lineIn m i ∷ linesIn m (suc i) left
+
+-- "0 is the start and 99 the close"
+unfoldable pub edge : ℕ → Bool
+edge p = eqb p 0 || eqb p 99
+
+-- how many denials FREE p q has ("If p or q is 0 or 99 there is one denial"), and a row of each kind ("EARLIER, LATER: none. BEFORE p q: two denials")
+unfoldable pub weightFree : (p q : ℕ) → ℕ
+weightFree p q = cond (edge p) (cond (eqb p q) 0 1) (cond (edge q) 1 2)
+
+unfoldable pub weight : (kind p q : ℕ) → ℕ
+weight kind p q =
+    cond (eqb kind 1) 0
+    (cond (leb 4 kind && leb kind 5) 0
+    (cond (eqb kind 6) 2
+    (cond (eqb kind 9) (weightFree p q) 1)))
+
+-- the denials of a row, where it is of section i
+unfoldable pub weighLine : ℕ → Line → ℕ
+weighLine i l = cond (eqb (l .section) i) (weight (l .kind) (l .p) (l .q)) 0
+
+-- the denials of section i
+unfoldable pub weighed : ℕ → List Line → ℕ
+weighed i [] = 0
+weighed i (l ∷ ls) = weighLine i l + weighed i ls
+
+-- "the product of the denials per consequent", sections i, i + 1, ..
+unfoldable pub product : (i left : ℕ) → List Line → ℕ
+product i zero ls = 1
+product i (suc left) ls = weighed i ls * product (suc i) left ls

@@ -1,0 +1,33 @@
+-- The text of a sheet: "a sheet's first line (k, its row count) and rows".
+-- Assumes nothing.
+use mathlib.Core.List.{List, [], _∷_, _++_, map}
+use Prim.Native.Nat.{ℕ}
+use lib.ListN.{length}
+use Rattle.columns.specs.Spell.{spell}
+use Rattle.scenario.specs.Fields.{fields, Tagged, tagged}
+use Rattle.scenario.specs.Sheet.{Sheet}
+use Rattle.sheet.specs.declared.Line.{Line}
+use Rattle.sheet.specs.Row.{six}
+
+unfoldable pub rowText : Line → List ℕ
+rowText l =
+    spell 3 (l .section)
+    ++ (spell 3 (l .kind) ++ (spell 3 (l .p) ++ (spell 3 (l .q) ++ (spell 11 (l .a) ++ (spell 11 (l .b) ++ (10 ∷ []))))))
+
+unfoldable pub rowsText : List Line → List ℕ
+rowsText [] = []
+rowsText (l ∷ ls) = rowText l ++ rowsText ls
+
+unfoldable pub headText : (k n : ℕ) → List ℕ
+headText k n = spell 3 k ++ (spell 3 n ++ (10 ∷ []))
+
+unfoldable pub sheetText : (k : ℕ) → List Line → List ℕ
+sheetText k ls = headText k (length ls) ++ rowsText ls
+
+-- a row's six numbers, from the row and its section
+unfoldable pub numbersOf : Tagged → Line
+numbersOf t = six (t .section) (fields (t .row) .kind) (fields (t .row) .p) (fields (t .row) .q) (fields (t .row) .a) (fields (t .row) .b)
+
+-- the text of a sheet, from its sections alone
+unfoldable pub textOf : Sheet → List ℕ
+textOf sheet = sheetText (length (sheet .consequents)) (map numbersOf (tagged 0 (sheet .antecedent ∷ sheet .consequents)))

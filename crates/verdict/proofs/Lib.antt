@@ -1,0 +1,9 @@
+pub mod Demands
+pub mod DemandThree
+pub mod Showing
+pub mod Printing
+pub mod Steps
+pub mod Consequents
+pub mod Matchings
+pub mod Reading
+pub mod Examples

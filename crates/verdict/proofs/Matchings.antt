@@ -1,0 +1,281 @@
+-- The check over memory: what it begins with, what a placement says, and what it answers.
+-- Assumes nothing.
+use mathlib.Core.Path.{_≡_, refl, sym, _∙_, ap, ap₂, subst}
+use mathlib.Core.Bool.{Bool, true, false, not, _&&_}
+use mathlib.Core.List.{List, [], _∷_, _++_, map, append-nil}
+use Prim.Native.Nat.{ℕ, zero, suc, _+_, _-_, _*_, _≤_, _<_}
+use native.Mathlib.Numerals.{add-one}
+use native.Mathlib.Omega.{arith}
+use lib.ListN.{length, getD, take, drop, replicate, length-map, length-append}
+use lib.Seq.{take-at}
+use lib.Dec.{T, not-T}
+use borrow.Author.Tests.{eq-eqb, ne-eqb}
+use Rattle.scenario.specs.Rows.{Row, Run, points, elem}
+use Rattle.scenario.specs.Walk.{walk}
+use Rattle.scenario.specs.Sheet.{Sheet, Answer, nothing, found, Says, matching, all, env, count as countOf, antiscenario, chosen, choices, choose, total, flat}
+use Rattle.scenario.specs.Search.{least, smallest-matching, stopped, is-violating, check, faults}
+use Rattle.scenario.specs.Fields.{Tagged, tagged}
+use Rattle.scenario.proofs.Base.{both, pair, all-map}
+use Rattle.scenario.specs.Reading.{All, Ordinary, SheetRead, Pattern}
+use Rattle.scenario.proofs.Rules.{Laws}
+use Rattle.scenario.proofs.Place.{env-map}
+use Rattle.scenario.proofs.Least.{search-says}
+use Rattle.scenario.proofs.Prefix.{least-none}
+use Rattle.scenario.proofs.Reading.{sound}
+use Rattle.scenario.proofs.Agreement.{Base, is-start, is-close, is-antecedent}
+use Rattle.runlog.specs.Held.{Held, runAt}
+use Rattle.pattern.specs.Decode.{by, rowAt, listed, rowsOf}
+use Rattle.search.specs.Matching.{behind, after, next-matching, isFound}
+use Rattle.search.specs.Placing.{ready, planOf, Prepared, Fixture, Latest}
+use Rattle.runlog.proofs.Logs.{seen-laws, part-length}
+use Rattle.search.proofs.Finding.{blank as blank-env, planned}
+use Rattle.search.proofs.Found.{search-none}
+use Rattle.scenario.proofs.Patterns.{antiscenario-pattern}
+use Rattle.verdict.specs.declared.Checked.{Checked}
+use Rattle.verdict.specs.declared.Faults.{Faults}
+use Rattle.verdict.specs.Check.{front, violatedAt, verdictOf, blank}
+use Rattle.verdict.specs.Consequents.{tagAt, tagsOf, faultsIn}
+use Rattle.verdict.specs.Memory.{sheetAt, SheetHeld, leading, AntecedentPrepared}
+use Rattle.verdict.proofs.Consequents.{tag, faults-length, all-halt, fault-rows}
+use Rattle.search.proofs.Turn.{still, turn-keeps, turn-none, turn-matches, turn-hit, turn-miss, turn-on, turn-falls}
+
+-- The antecedent's rows stand first.
+
+leading-none : (i : ℕ) (cs : List (List Row)) → leading (tagged (suc i) cs) ≡ 0
+unfolding leading tagged
+leading-none i [] = refl
+leading-none i ([] ∷ cs) = leading-none (suc i) cs
+leading-none i ((r ∷ c) ∷ cs) = rw (ne-eqb (suc i) 0 (λ q. omega arith))
+
+leading-front : (rs : List Row) (ts : List Tagged) → leading ts ≡ 0 → leading (map (tag 0) rs ++ ts) ≡ length rs
+unfolding leading
+leading-front [] ts h = h
+leading-front (r ∷ rs) ts h = ap suc (leading-front rs ts h)
+
+rows-of-tags : (rows : List ℕ) (a j left : ℕ) → a ≤ left → listed (rowAt rows) j a ≡ map (λ (t : Tagged). t .row) (take a (listed (tagAt rows) j left))
+unfolding listed
+rows-of-tags rows zero j left h = refl
+rows-of-tags rows (suc a) j zero h = absurd (omega arith)
+rows-of-tags rows (suc a) j (suc left) h = ap (λ (z : List Row). rowAt rows j ∷ z) (rows-of-tags rows a (suc j) left (omega arith))
+
+listed-length : (rows : List ℕ) (j left : ℕ) → length (listed (tagAt rows) j left) ≡ left
+unfolding listed
+listed-length rows j zero = refl
+listed-length rows j (suc left) = ap suc (listed-length rows (suc j) left)
+
+untag : (rs : List Row) → map (λ (t : Tagged). t .row) (map (tag 0) rs) ≡ rs
+untag [] = refl
+untag (r ∷ rs) = ap (λ (z : List Row). r ∷ z) (untag rs)
+
+module _ (rows : List ℕ) (count k : ℕ) (S : SheetHeld rows count k) where
+  abbrev whole-sheet : Sheet
+  whole-sheet = sheetAt rows count k
+
+  pub antecedent-count : leading (tagsOf rows count) ≡ length (whole-sheet .antecedent)
+  unfolding tagged
+  antecedent-count = ap leading (S .tags) ∙ leading-front (whole-sheet .antecedent) (tagged 1 (whole-sheet .consequents)) (leading-none 0 (whole-sheet .consequents))
+
+  pub antecedent-below : length (whole-sheet .antecedent) ≤ count
+  unfolding tagged tagsOf
+  antecedent-below = omega (arith, listed-length rows 0 count, ap length (S .tags), length-append (map (tag 0) (whole-sheet .antecedent)) (tagged 1 (whole-sheet .consequents)), length-map (whole-sheet .antecedent) (tag 0))
+
+  pub antecedent-small : (a : ℕ) → a ≡ length (whole-sheet .antecedent) → a ≤ 200
+  antecedent-small a e = omega (arith, antecedent-below, S .few)
+
+  pub antecedent-rows : rowsOf rows (length (whole-sheet .antecedent)) ≡ whole-sheet .antecedent
+  unfolding rowsOf tagsOf tagged
+  antecedent-rows =
+      rows-of-tags rows (length (whole-sheet .antecedent)) 0 count antecedent-below
+      ∙ ap (λ (z : List Tagged). map (λ (t : Tagged). t .row) (take (length (whole-sheet .antecedent)) z)) (S .tags)
+      ∙ ap (map (λ (t : Tagged). t .row)) (take-at (map (tag 0) (whole-sheet .antecedent)) (tagged 1 (whole-sheet .consequents)) (length (whole-sheet .antecedent)) (length-map (whole-sheet .antecedent) (tag 0)))
+      ∙ untag (whole-sheet .antecedent)
+
+  -- the antecedent alone is a whole-sheet without consequents, and its one antiscenario is it
+  alone : Sheet
+  alone = record { antecedent = whole-sheet .antecedent; consequents = [] }
+
+  antecedent-pattern : Pattern (whole-sheet .antecedent)
+  unfolding alone antiscenario chosen choices choose total countOf flat
+  antecedent-pattern = subst Pattern (append-nil (whole-sheet .antecedent)) (antiscenario-pattern alone read 1 (omega arith) (omega arith))
+    where
+      read : SheetRead alone
+      read = record { numbers = S .read .numbers; few = S .read .few; uses = S .read .uses; consequents = tt; count = omega arith }
+
+  pub antecedent-few : length (points (whole-sheet .antecedent)) ≤ 4
+  antecedent-few = S .read .few
+
+  pub rows-pattern : (a : ℕ) → a ≡ length (whole-sheet .antecedent) → Pattern (rowsOf rows a)
+  rows-pattern a e = subst Pattern (sym (ap (rowsOf rows) e ∙ antecedent-rows)) antecedent-pattern
+
+  -- what is prepared
+  pub antecedent-prepared : (ticks events : List ℕ) (n : ℕ) → Held ticks events n → (a : ℕ) → a ≡ length (whole-sheet .antecedent) → (pts : List ℕ) (np : ℕ) (due : List ℕ)
+      → np ≡ length (points (rowsOf rows a)) → take np pts ≡ points (rowsOf rows a) → ((j : ℕ) → j < a → Latest pts np (getD due j 0) (rowAt rows j)) → length pts ≡ 58
+      → AntecedentPrepared (runAt ticks events n) n rows count k a pts np due
+  antecedent-prepared ticks events n H a e pts np due en ep ed l = record {
+    antecedent-rows = ap (rowsOf rows) e ∙ antecedent-rows;
+    plan = planned ticks events n H rows a (rows-pattern a e) pts due np en ep ed;
+    pattern = rows-pattern a e;
+    number = en;
+    front = ep;
+    roomy = omega (arith, en, rows-pattern a e .few);
+    few = omega (arith, e, antecedent-below, S .few);
+  }
+
+-- One row more at the front
+
+module _ (rows : List ℕ) (count j : ℕ) where
+  pub lead-end : count ≤ j → leading (listed (tagAt rows) j (count - j)) ≡ 0
+  unfolding leading listed
+  lead-end h = let e : count - j ≡ 0 = omega arith in rw e
+
+  module _ (h : j < count) (s : ℕ) (es : s ≡ getD rows (6 * j) 0) where
+    more : count - j ≡ suc (count - (j + 1))
+    more = omega arith
+
+    pub lead-other : (s ≡ 0 → ⊥) → leading (listed (tagAt rows) j (count - j)) ≡ 0
+    unfolding leading listed
+    lead-other n = rw more (simp (ne-eqb _ _ (λ e. n (es ∙ e))))
+
+    pub lead-on : s ≡ 0 → leading (listed (tagAt rows) j (count - j)) ≡ suc (leading (listed (tagAt rows) (j + 1) (count - (j + 1))))
+    unfolding leading listed
+    lead-on z = rw more (simp (eq-eqb _ _ (sym es ∙ z), add-one))
+
+abbrev pub made : (p k : ℕ) (positions rows : List ℕ) → Checked
+made p k positions rows = record { refusal = 0; violated = true; points = p; consequents = k; positions = positions; rows = rows }
+
+checked-same : (p q k l : ℕ) (a b r s : List ℕ) → p ≡ q → k ≡ l → a ≡ b → r ≡ s → made p k a r ≡ made q l b s
+checked-same p q k l a b r s e f g h = rw (e, f, g, h)
+
+-- The loop
+
+module _ (ticks events : List ℕ) (n : ℕ) (H : Held ticks events n) (rows : List ℕ) (count k : ℕ) (S : SheetHeld rows count k) (antecedent : ℕ) (pts : List ℕ) (np : ℕ) (due : List ℕ)
+    (P : AntecedentPrepared (runAt ticks events n) n rows count k antecedent pts np due) where
+  abbrev pub run : Run
+  run = runAt ticks events n
+
+  abbrev pub sheet : Sheet
+  sheet = sheetAt rows count k
+
+  abbrev pub rs : List Row
+  rs = rowsOf rows antecedent
+
+  L : Laws run
+  L = seen-laws ticks events n H
+
+  pub only : (xs : List ℕ) → T (is-violating run sheet xs) → T (matching run rs xs)
+  unfolding is-violating
+  only xs t = subst (λ (z : List Row). T (matching run z xs)) (sym (P .antecedent-rows)) (both (matching run (sheet .antecedent) xs) (all (λ c. stopped (walk run (env run (points (sheet .antecedent)) xs) c)) (sheet .consequents)) t .0)
+
+  pub fixture : Fixture run (blank-env (n + 1))
+  fixture = record { start = refl; close = rw (part-length events n (H .lines .room), add-one n); size = refl }
+
+  pub prepared : ready run rows due antecedent (blank-env (n + 1)) 0 ≡ true → Prepared run n rows due antecedent pts np (blank-env (n + 1))
+  prepared e = record { plan = P .plan; pattern = P .pattern; number = P .number; front = P .front; roomy = P .roomy; few = P .few; ready = e; fixed = fixture }
+
+  pub holds : check run sheet ≡ nothing → blank 0 ≡ verdictOf run sheet (check run sheet)
+  unfolding verdictOf
+  holds e = rw e
+
+  -- a row without points is not met: there is no matching
+  pub unready : ready run rows due antecedent (blank-env (n + 1)) 0 ≡ false → check run sheet ≡ nothing
+  unfolding check
+  unready e = least-none (run .lines) (length (points (sheet .antecedent))) (is-violating run sheet) (λ xs t. no-match xs (only xs t))
+    where
+      none : smallest-matching run rs ≡ nothing
+      none = search-none (planOf run n rows due antecedent pts) rs (P .plan) (all-map (λ m h. h .0) (points rs) (P .pattern .plain)) (P .pattern .once) (blank-env (n + 1)) (fixture .start) (fixture .close)
+          (subst (λ (t : Bool). T (not t)) (sym e) tt)
+
+      no-match : (xs : List ℕ) → T (matching run rs xs) → ⊥
+      no-match xs t = subst (Says (λ zs. T (matching run rs zs))) none (search-says run rs) xs t
+
+  pub begin : (zs : List ℕ) → least (run .lines) (length (points rs)) (λ ys. behind false zs ys && is-violating run sheet ys) ≡ check run sheet
+  unfolding check
+  begin zs = ap (λ (z : List Row). least (run .lines) (length (points z)) (is-violating run sheet)) (P .antecedent-rows)
+
+  -- A placement that is a matching of the antecedent
+  module _ (E : List ℕ) (F : Fixture run E) (m : T (matching run rs (map (by E) (points rs)))) (f : Faults) (ef : f ≡ faultsIn run (tagsOf rows count) E 0 k (replicate 6 0)) where
+    abbrev xs : List ℕ
+    xs = map (by E) (points rs)
+
+    agree : (m : ℕ) → Base sheet m → getD E m 0 ≡ env run (points (sheet .antecedent)) xs m
+    agree m b =
+        env-map run (points rs) (by E) (record { start = F .start; close = F .close }) m (λ o. known o b)
+        ∙ ap (λ (z : List Row). env run (points z) xs m) (P .antecedent-rows)
+      where
+        known : Ordinary m → Base sheet m → T (elem m (points rs))
+        known o (is-start q) = absurd (o .not-start q)
+        known o (is-close q) = absurd (o .not-close q)
+        known o (is-antecedent t) = subst (λ (z : List Row). T (elem m (points z))) (sym (P .antecedent-rows)) t
+
+    abbrev stuck : Bool
+    stuck = all (λ c. stopped (walk run (env run (points (sheet .antecedent)) xs) c)) (sheet .consequents)
+
+    all-are : f .all ≡ stuck
+    all-are = ap (λ (z : Faults). z .all) ef ∙ all-halt run L sheet (tagsOf rows count) xs E (F .size) agree (sound sheet (S .read)) (S .read .count) (S .tags) k (S .consequents) (replicate 6 0)
+
+    match : T (matching run (sheet .antecedent) xs)
+    match = subst (λ (z : List Row). T (matching run z xs)) (P .antecedent-rows) m
+
+    pub hit : f .all ≡ true → T (is-violating run sheet xs)
+    unfolding is-violating
+    hit e = pair (matching run (sheet .antecedent) xs) stuck match (subst T (sym (sym all-are ∙ e)) tt)
+
+    pub miss : f .all ≡ false → T (not (is-violating run sheet xs))
+    unfolding is-violating
+    miss e = not-T (matching run (sheet .antecedent) xs && stuck) (λ t. subst T (sym all-are ∙ e) (both (matching run (sheet .antecedent) xs) stuck t .1))
+
+    pub answered : f .all ≡ true → (at : List ℕ) → at ≡ map (by E) (take np pts) ++ drop np (replicate 4 0)
+        → check run sheet ≡ found xs
+        → made np k at (f .rows) ≡ verdictOf run sheet (check run sheet)
+    unfolding verdictOf violatedAt front
+    answered e at ea ec =
+        let size : length xs ≡ np = length-map (points rs) (by E) ∙ sym (P .number) in
+        let place : at ≡ xs ++ drop (length xs) (replicate 4 0) = ea ∙ ap₂ (λ (u : List ℕ) (v : ℕ). map (by E) u ++ drop v (replicate 4 0)) (P .front) (sym size) in
+        let lines : f .rows ≡ front 6 (faults run sheet xs (length (sheet .antecedent)) (sheet .consequents)) = ap (λ (z : Faults). z .rows) ef ∙ fault-rows run L sheet (tagsOf rows count) xs E (F .size) agree (sound sheet (S .read)) (S .read .count) (S .tags) k (S .consequents) (subst T (sym (sym all-are ∙ e)) tt) in
+        let fs = faults run sheet xs (length (sheet .antecedent)) (sheet .consequents) in
+        checked-same np (length xs) k (length fs) at (front 4 xs) (f .rows) (front 6 fs) (sym size) (sym (faults-length run sheet xs (sheet .consequents) (length (sheet .antecedent)) ∙ S .consequents)) place lines
+        ∙ ap (verdictOf run sheet) (sym ec)
+
+  -- A turn of the loop: E is the array before, r and E' what going on to the next matching gives.
+  module _ (re : ready run rows due antecedent (blank-env (n + 1)) 0 ≡ true) (E : List ℕ) (F : Fixture run E) (b : Bool)
+      (inv : least (run .lines) (length (points rs)) (λ ys. behind b (map (by E) (points rs)) ys && is-violating run sheet ys) ≡ check run sheet)
+      (r : Bool) (E' : List ℕ) (er : r ≡ isFound (next-matching run rs b (map (by E) (points rs)))) (ee : E' ≡ after E (points rs) (next-matching run rs b (map (by E) (points rs)))) where
+    abbrev up : Answer
+    up = next-matching run rs b (map (by E) (points rs))
+
+    moved : (X : List ℕ → Type 0) → X (after E (points rs) up) → X E'
+    moved X h = subst X (sym ee) h
+
+    pub loop-none : r ≡ false → blank 0 ≡ verdictOf run sheet (check run sheet)
+    loop-none q = holds (sym inv ∙ turn-none run n rows due antecedent pts np (blank-env (n + 1)) (prepared re) (is-violating run sheet) only E F b up refl (sym er ∙ q))
+
+    pub loop-keeps : Fixture run E'
+    loop-keeps = moved (Fixture run) (turn-keeps run n rows due antecedent pts np (blank-env (n + 1)) (prepared re) (is-violating run sheet) only E F b up)
+
+    module _ (t : r ≡ true) where
+      pub loop-on : All (λ (x : ℕ). (1 ≤ x) × (x ≤ run .lines)) (map (by E') (points rs))
+      loop-on = moved (λ z. All (λ (x : ℕ). (1 ≤ x) × (x ≤ run .lines)) (map (by z) (points rs)))
+          (turn-on run n rows due antecedent pts np (blank-env (n + 1)) (prepared re) (is-violating run sheet) only E F b up refl (sym er ∙ t))
+
+      pub loop-falls : (b ≡ true → All (λ (x : ℕ). (1 ≤ x) × (x ≤ run .lines)) (map (by E) (points rs)))
+          → still (run .lines) (length (points rs)) true (map (by E') (points rs)) < still (run .lines) (length (points rs)) b (map (by E) (points rs))
+      loop-falls o = moved (λ z. still (run .lines) (length (points rs)) true (map (by z) (points rs)) < still (run .lines) (length (points rs)) b (map (by E) (points rs)))
+          (turn-falls run n rows due antecedent pts np (blank-env (n + 1)) (prepared re) (is-violating run sheet) only E F b up refl (sym er ∙ t) o)
+
+      match-there : T (matching run rs (map (by E') (points rs)))
+      match-there = moved (λ z. T (matching run rs (map (by z) (points rs)))) (turn-matches run n rows due antecedent pts np (blank-env (n + 1)) (prepared re) (is-violating run sheet) only E F b up refl (sym er ∙ t))
+
+      module _ (f : Faults) (ef : f ≡ faultsIn run (tagsOf rows count) E' 0 k (replicate 6 0)) where
+        pub loop-hit : f .all ≡ true → (at : List ℕ) → at ≡ map (by E') (take np pts) ++ drop np (replicate 4 0)
+            → made np k at (f .rows) ≡ verdictOf run sheet (check run sheet)
+        loop-hit e at ea = answered E' loop-keeps match-there f ef e at ea
+            (sym inv ∙ turn-hit run n rows due antecedent pts np (blank-env (n + 1)) (prepared re) (is-violating run sheet) only E F b up refl (sym er ∙ t)
+            (subst (λ (z : List ℕ). T (is-violating run sheet (map (by z) (points rs)))) ee (hit E' loop-keeps match-there f ef e))
+            ∙ ap (λ (z : List ℕ). found (map (by z) (points rs))) (sym ee))
+
+        pub loop-miss : f .all ≡ false → least (run .lines) (length (points rs)) (λ ys. behind true (map (by E') (points rs)) ys && is-violating run sheet ys) ≡ check run sheet
+        loop-miss e =
+            ap (λ (z : List ℕ). least (run .lines) (length (points rs)) (λ ys. behind true (map (by z) (points rs)) ys && is-violating run sheet ys)) ee
+            ∙ sym (turn-miss run n rows due antecedent pts np (blank-env (n + 1)) (prepared re) (is-violating run sheet) only E F b up refl (sym er ∙ t)
+            (subst (λ (z : List ℕ). T (not (is-violating run sheet (map (by z) (points rs))))) ee (miss E' loop-keeps match-there f ef e)))
+            ∙ inv

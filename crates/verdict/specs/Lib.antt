@@ -1,0 +1,6 @@
+pub mod Check
+pub mod Demands
+pub mod Showing
+pub mod Printing
+pub mod Consequents
+pub mod Memory

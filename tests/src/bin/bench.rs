@@ -1,0 +1,217 @@
+//! The proved code through the C interface beside plain Rust, in one run, as ratios: bench [check | all].
+use satskhubo_tests::generate::logs::{mixed, uniform};
+use satskhubo_tests::generate::sheets::sheet_s;
+use satskhubo_tests::host::Host;
+use satskhubo_tests::outcome::Side;
+use satskhubo_tests::plain;
+use satskhubo_tests::reference::sheet::{self, kind::*, Row};
+use std::cell::RefCell;
+use std::hint::black_box;
+
+const SIZES: [u32; 4] = [500, 1000, 2000, 4000];
+const REPEATS: usize = 7;
+/// A repeat goes on until it has taken this long, so that short work is measured many times over.
+const REPEAT: f64 = 0.01;
+/// Work longer than this is measured once.
+const LONG: f64 = 0.5;
+const THREAD_TIME: i32 = 3;
+
+#[repr(C)]
+struct Timespec {
+    seconds: i64,
+    nanoseconds: i64,
+}
+
+extern "C" {
+    fn clock_gettime(clock: i32, time: *mut Timespec) -> i32;
+}
+
+/// The seconds that this thread has had of a processor; others on the machine do not count.
+fn thread_seconds() -> f64 {
+    let mut time = Timespec { seconds: 0, nanoseconds: 0 };
+    assert_eq!(unsafe { clock_gettime(THREAD_TIME, &mut time) }, 0);
+    time.seconds as f64 + time.nanoseconds as f64 / 1e9
+}
+
+fn seconds_of(runs: u32, work: &mut dyn FnMut()) -> f64 {
+    let begun = thread_seconds();
+    for _ in 0..runs {
+        work();
+    }
+    (thread_seconds() - begun) / f64::from(runs)
+}
+
+fn median(mut times: Vec<f64>) -> f64 {
+    times.sort_by(f64::total_cmp);
+    times[times.len() / 2]
+}
+
+/// The median seconds of a run of each, measured in turn.
+fn both(mut ours: impl FnMut(), mut plain: impl FnMut()) -> (f64, f64) {
+    let once = (seconds_of(1, &mut ours), seconds_of(1, &mut plain));
+    let longest = once.0.max(once.1);
+    if longest > LONG {
+        return once;
+    }
+    let runs = |once: f64| (REPEAT / once.max(1e-9)).ceil().clamp(1.0, 1e6) as u32;
+    let (mut our_times, mut plain_times) = (Vec::new(), Vec::new());
+    for _ in 0..REPEATS {
+        our_times.push(seconds_of(runs(once.0), &mut ours));
+        plain_times.push(seconds_of(runs(once.1), &mut plain));
+    }
+    (median(our_times), median(plain_times))
+}
+
+/// Keeps the compiler from leaving out work whose result is not used.
+fn keep<T>(result: T) {
+    black_box(result);
+}
+
+/// One line: both times, their ratio, and how both grew since the size before.
+struct Table {
+    before: Option<(f64, f64)>,
+}
+
+impl Table {
+    fn heading() {
+        println!("{:<34} {:>6} {:>12} {:>12} {:>7} {:>14}", "", "lines", "ours", "plain Rust", "ratio", "growth");
+    }
+
+    fn new() -> Table {
+        Table { before: None }
+    }
+
+    fn line(&mut self, name: &str, size: u32, ours: f64, plain: f64) {
+        let growth = match self.before {
+            Some((ours_before, plain_before)) => format!("{:.1} / {:.1}", ours / ours_before, plain / plain_before),
+            None => String::new(),
+        };
+        println!("{name:<34} {size:>6} {:>12} {:>12} {:>7.2} {growth:>14}", spelled(ours), spelled(plain), ours / plain);
+        self.before = Some((ours, plain));
+    }
+}
+
+fn spelled(seconds: f64) -> String {
+    match seconds {
+        s if s < 1e-3 => format!("{:.2} us", s * 1e6),
+        s if s < 1.0 => format!("{:.2} ms", s * 1e3),
+        s => format!("{s:.2} s"),
+    }
+}
+
+fn sheet_text(k: u32, rows: &[[u32; 6]]) -> Vec<u8> {
+    let rows: Vec<Row> = rows.iter().map(|f| Row::new(f[0], f[1], f[2], f[3], f[4], f[5])).collect();
+    sheet::text(k, &rows)
+}
+
+/// Six consequents of four denials each, that jump to the next correction: N = 4,096.
+fn many_antiscenarios() -> Vec<u8> {
+    let mut rows = vec![[0, POINT, 1, 0, 8, 0]];
+    for section in 1..=6 {
+        let p = 10 * section + 1;
+        rows.push([section, LAST, p, 1, 4, 0]);
+        rows.push([section, WITHIN, p, 1, 0, 500]);
+        rows.push([section, FREE, p, 1, 2, 0]);
+    }
+    sheet_text(6, &rows)
+}
+
+/// Four points with set 8 and rows that no placement meets.
+fn timed_case() -> Vec<u8> {
+    let points = [1, 2, 3, 4].map(|p| [0, POINT, p, 0, 8, 0]);
+    sheet_text(0, &[&points[..], &[[0, BEFORE, 1, 2, 0, 0], [0, BEFORE, 2, 1, 0, 0]]].concat())
+}
+
+/// Two points with set 8 and a consequent NEXT 11 after 1.
+fn standing_measure() -> Vec<u8> {
+    sheet_text(1, &[[0, POINT, 1, 0, 8, 0], [0, POINT, 2, 0, 8, 0], [1, NEXT, 11, 1, 8, 0]])
+}
+
+fn read_logs() {
+    let mut table = Table::new();
+    for n in SIZES {
+        let log = mixed(n).text();
+        let (ours, plain) = both(|| keep(Host.read_log(black_box(&log))), || keep(plain::read_log(black_box(&log))));
+        let rate = |seconds: f64| log.len() as f64 / seconds / 1e6;
+        table.line(&format!("read a log ({:.0} / {:.0} MB/s)", rate(ours), rate(plain)), n, ours, plain);
+    }
+}
+
+fn read_sheets() {
+    for (name, sheet) in [("S", sheet_s()), ("19 rows", many_antiscenarios())] {
+        let (ours, plain) = both(|| keep(Host.read_sheet(black_box(&sheet))), || keep(plain::read_sheet(black_box(&sheet))));
+        let rate = |seconds: f64| sheet.len() as f64 / seconds / 1e6;
+        Table::new().line(&format!("read {name} ({:.0} / {:.0} MB/s)", rate(ours), rate(plain)), 0, ours, plain);
+    }
+}
+
+fn write_all() {
+    let sheet = many_antiscenarios();
+    let buffer = RefCell::new([0; 3437]);
+    let write_ours = || (1..=4096).for_each(|number| keep(Host.write_into(&sheet, number, &mut *buffer.borrow_mut())));
+    let write_plain = || (1..=4096).for_each(|number| keep(plain::write(&sheet, number, &mut *buffer.borrow_mut())));
+    let (ours, plain) = both(write_ours, write_plain);
+    Table::new().line("write all of N = 4,096", 0, ours, plain);
+}
+
+/// The search of these numbers, one after another, on logs of each size.
+fn search(name: &str, sheet: &[u8], numbers: &[u64], log: fn(u32) -> Vec<u8>) {
+    let mut table = Table::new();
+    let places = RefCell::new([0; 58]);
+    for n in SIZES {
+        let log = log(n);
+        let search_ours = |number: u64| Host.search_into(sheet, black_box(&log), number, &mut *places.borrow_mut());
+        let search_plain = |number: u64| plain::search(sheet, black_box(&log), number, &mut *places.borrow_mut());
+        assert_eq!(search_ours(numbers[0]), (0, search_plain(numbers[0]).expect("accepted").is_some()));
+        let all_ours = || numbers.iter().for_each(|&number| keep(search_ours(number)));
+        let all_plain = || numbers.iter().for_each(|&number| keep(search_plain(number)));
+        let (ours, plain) = both(all_ours, all_plain);
+        table.line(name, n, ours, plain);
+    }
+}
+
+fn check(name: &str, sheet: &[u8], log: fn(u32) -> Vec<u8>) {
+    let mut table = Table::new();
+    for n in SIZES {
+        let log = log(n);
+        assert_eq!(Host.check_number(sheet, &log), plain::Plain.check_number(sheet, &log));
+        let check_ours = || keep(Host.check_number(sheet, black_box(&log)));
+        let check_plain = || keep(plain::check(sheet, black_box(&log)));
+        let (ours, plain) = both(check_ours, check_plain);
+        table.line(name, n, ours, plain);
+    }
+}
+
+fn mixed_text(n: u32) -> Vec<u8> {
+    mixed(n).text()
+}
+
+fn scans_text(n: u32) -> Vec<u8> {
+    uniform(n, 3).text()
+}
+
+/// Without the word `all`, one number in seventeen stands for the rest; seventeen, so that every consequent's choice moves.
+fn search_many(every: bool) {
+    let step = if every { 1 } else { 17 };
+    let numbers: Vec<u64> = (1..=4096).step_by(step).collect();
+    search(&format!("search {} of N = 4,096", numbers.len()), &many_antiscenarios(), &numbers, mixed_text);
+}
+
+fn main() {
+    let word = std::env::args().nth(1).unwrap_or_default();
+    Table::heading();
+    if word == "check" {
+        check("standing measure", &standing_measure(), scans_text);
+        return;
+    }
+    read_logs();
+    read_sheets();
+    write_all();
+    for number in 1..=4 {
+        search(&format!("search S, number {number}"), &sheet_s(), &[number], mixed_text);
+    }
+    search_many(word == "all");
+    search("timed case: none", &timed_case(), &[1], scans_text);
+    check("check S", &sheet_s(), mixed_text);
+    check("standing measure", &standing_measure(), scans_text);
+}

@@ -1,0 +1,66 @@
+//! Random damage of texts: bytes changed, lost or added, lines moved, and fields replaced by other numbers.
+use crate::random::Random;
+use crate::reference::columns::spell;
+
+const BYTES: [u8; 24] = *b"0123456789  \n\n\r\t+-.a\x00\x7f\xa0\xff";
+const NUMBERS: [u32; 22] = [0, 1, 2, 3, 4, 5, 6, 7, 8, 9, 10, 11, 12, 13, 19, 21, 31, 32, 98, 99, 176, 177];
+const LARGE_NUMBERS: [u32; 9] = [255, 256, 258, 999, 1000, 4001, 65536, 4_294_967_294, 4_294_967_295];
+
+/// The widths of a text's first line and of its further lines.
+pub struct Columns {
+    pub first: &'static [usize],
+    pub further: &'static [usize],
+}
+
+pub const SHEET: Columns = Columns { first: &[3, 3], further: &[3, 3, 3, 3, 11, 11] };
+pub const LOG: Columns = Columns { first: &[5, 11, 11], further: &[11, 3] };
+
+fn line_length(widths: &[usize]) -> usize {
+    widths.iter().sum::<usize>() + 1
+}
+
+/// Replaces one field by another number that fits it, so that the damage lies past the columns.
+fn other_number(random: &mut Random, text: &mut [u8], columns: &Columns) {
+    let first = line_length(columns.first);
+    let further = line_length(columns.further);
+    if text.len() < first {
+        return;
+    }
+    let lines = (text.len() - first) / further;
+    let line = random.below(lines + 1);
+    let (mut at, widths) = if line == 0 { (0, columns.first) } else { (first + (line - 1) * further, columns.further) };
+    let field = random.below(widths.len());
+    at += widths[..field].iter().sum::<usize>();
+    let number = if random.one_in(4) { random.pick(&LARGE_NUMBERS) } else { random.pick(&NUMBERS) };
+    if let Some(spelled) = spell(number, widths[field]) {
+        text[at..at + widths[field]].copy_from_slice(&spelled);
+    }
+}
+
+fn swap_lines(random: &mut Random, text: &mut [u8], columns: &Columns) {
+    let (first, further) = (line_length(columns.first), line_length(columns.further));
+    if text.len() < first + further {
+        return;
+    }
+    let lines = (text.len() - first) / further;
+    let (x, y) = (random.below(lines), random.below(lines));
+    for column in 0..further {
+        text.swap(first + x * further + column, first + y * further + column);
+    }
+}
+
+/// One piece of damage.
+pub fn damage(random: &mut Random, text: &mut Vec<u8>, columns: &Columns) {
+    let length = text.len();
+    match random.below(12) {
+        0 | 1 if length > 0 => text[random.below(length)] = random.pick(&BYTES),
+        2 if length > 0 => {
+            text.remove(random.below(length));
+        }
+        3 => text.insert(random.below(length + 1), random.pick(&BYTES)),
+        4 => text.truncate(random.below(length + 1)),
+        5 => text.push(random.pick(&BYTES)),
+        6 => swap_lines(random, text, columns),
+        _ => other_number(random, text, columns),
+    }
+}

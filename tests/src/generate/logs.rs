@@ -1,0 +1,64 @@
+//! Logs that are accepted: random ones with equal ticks, no lines and ends apart, and those of document 01.
+use crate::random::Random;
+use crate::reference::blunder::Blunder;
+use crate::reference::log::{Line, Log};
+
+/// The events that random logs and sets have in common: mostly three, now and then the first or the last there is.
+pub const EVENTS: [u32; 11] = [1, 1, 1, 2, 2, 2, 3, 3, 3, 0, 31];
+
+/// Lines of (tick, event) that start at 0 and close at the last tick, as in document 01's examples.
+pub fn log_of(lines: &[(u32, u32)]) -> Log {
+    let lines: Vec<Line> = lines.iter().map(|&(tick, event)| Line { tick, event }).collect();
+    Log { start: 0, close: lines.last().map_or(0, |line| line.tick), lines, blunder: Blunder::None }
+}
+
+fn step(random: &mut Random, tick: u32) -> u32 {
+    let further = match random.below(12) {
+        0..=3 => 0,
+        4..=10 => random.from_to(1, 3),
+        _ => random.from_to(50, 500),
+    };
+    tick.saturating_add(further)
+}
+
+fn first_tick(random: &mut Random) -> u32 {
+    match random.below(10) {
+        0..=6 => 0,
+        7 => random.from_to(1, 9),
+        8 => u32::MAX - random.from_to(0, 20),
+        _ => random.from_to(0, u32::MAX),
+    }
+}
+
+/// A log of up to so many lines.
+pub fn random(random: &mut Random, most: u32) -> Log {
+    let n = if random.one_in(12) { 0 } else { random.from_to(1, most) };
+    of_length(random, n)
+}
+
+/// A log of exactly so many lines.
+pub fn of_length(random: &mut Random, n: u32) -> Log {
+    let kinds = random.from_to(1, 4) as usize;
+    let events: Vec<u32> = (0..kinds).map(|_| random.pick(&EVENTS)).collect();
+    let start = first_tick(random);
+    let mut tick = start;
+    let mut lines = Vec::new();
+    for _ in 0..n {
+        tick = step(random, tick);
+        lines.push(Line { tick, event: random.pick(&events) });
+    }
+    let close = if random.one_in(9) { u32::MAX } else { step(random, tick) };
+    Log { start, close, lines, blunder: Blunder::None }
+}
+
+/// Lines of one event, 10 ticks apart.
+pub fn uniform(n: u32, event: u32) -> Log {
+    log_of(&(1..=n).map(|line| (10 * line, event)).collect::<Vec<_>>())
+}
+
+/// Corrections and scans in turn, so that sheet S holds.
+pub fn mixed(n: u32) -> Log {
+    let events = [2, 3, 3, 2, 3];
+    let lines: Vec<(u32, u32)> = (0..n).map(|line| (10 * line, events[(line % 5) as usize])).collect();
+    log_of(&lines)
+}

@@ -1,0 +1,14 @@
+//! Sheets and logs for the tests: random, enumerated, damaged at random, and damaged for each refusal.
+pub mod damage;
+pub mod families;
+pub mod logs;
+pub mod pairs;
+pub mod sheets;
+pub mod targeted;
+
+/// A sheet and a log, as texts.
+#[derive(Clone, Debug)]
+pub struct Pair {
+    pub sheet: Vec<u8>,
+    pub log: Vec<u8>,
+}

@@ -1,0 +1,70 @@
+//! The pair of a seed.
+use super::{damage, logs, sheets, Pair};
+use crate::random::Random;
+use crate::reference::blunder::Blunder;
+use crate::reference::log::Log;
+use crate::reference::operations::{verdict, Verdict};
+use crate::reference::sheet::{self, Sheet};
+use crate::reference::weeded;
+
+const MOST_TRIES: usize = 40;
+
+/// What a sheet is wanted to say of the log: most that are made at random say nothing of it.
+#[derive(Clone, Copy)]
+enum Wanted {
+    Anything,
+    AntecedentMatched,
+    HoldsByConsequents,
+}
+
+fn is_as_wanted(wanted: Wanted, sheet: &Sheet, log: &Log) -> bool {
+    let matched = || weeded::smallest(&sheet.section(0), log).is_some();
+    match wanted {
+        Wanted::Anything => true,
+        Wanted::AntecedentMatched => sheet.count > 0 && matched(),
+        Wanted::HoldsByConsequents => sheet.count > 0 && matched() && verdict(sheet, log) == Verdict::Holds,
+    }
+}
+
+/// The first of some random sheets that is as wanted, or else the last.
+fn sheet_for(random: &mut Random, shape: &sheets::Shape, wanted: Wanted, log: &Log) -> Vec<u8> {
+    let mut text = sheets::random(random, shape);
+    for _ in 0..MOST_TRIES {
+        if sheet::read(&text, Blunder::None).is_ok_and(|sheet| is_as_wanted(wanted, &sheet, log)) {
+            break;
+        }
+        text = sheets::random(random, shape);
+    }
+    text
+}
+
+/// Mostly small and accepted, some larger, some damaged.
+pub fn pair_of(seed: u64) -> Pair {
+    let mut random = Random::new(seed);
+    let (shape, most_lines) = match random.below(10) {
+        0..=5 => (&sheets::SMALL, 3),
+        6..=8 => (&sheets::MIDDLE, 5),
+        _ => (&sheets::LARGE, 6),
+    };
+    let wanted = match random.below(6) {
+        0 => Wanted::Anything,
+        1..=3 => Wanted::AntecedentMatched,
+        _ => Wanted::HoldsByConsequents,
+    };
+    let log = logs::random(&mut random, most_lines);
+    let mut sheet = sheet_for(&mut random, shape, wanted, &log);
+    let mut log = log.text();
+    if random.one_in(6) {
+        damaged(&mut random, &mut sheet, &damage::SHEET);
+    }
+    if random.one_in(8) {
+        damaged(&mut random, &mut log, &damage::LOG);
+    }
+    Pair { sheet, log }
+}
+
+fn damaged(random: &mut Random, text: &mut Vec<u8>, columns: &damage::Columns) {
+    for _ in 0..random.from_to(1, 3) {
+        damage::damage(random, text, columns);
+    }
+}

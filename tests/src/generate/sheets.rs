@@ -1,0 +1,172 @@
+//! Sheets that are accepted: random ones with every kind in every section that permits it, and those of document 01.
+use crate::generate::logs::EVENTS;
+use crate::random::Random;
+use crate::reference::sheet::{self, kind::*, Row, CLOSE, START};
+
+/// How large a random sheet may become.
+pub struct Shape {
+    pub antecedent_points: u32,
+    pub antecedent_rows: u32,
+    pub consequents: u32,
+    pub consequent_points: u32,
+    pub consequent_rows: u32,
+}
+
+pub const SMALL: Shape =
+    Shape { antecedent_points: 2, antecedent_rows: 1, consequents: 2, consequent_points: 2, consequent_rows: 2 };
+pub const MIDDLE: Shape =
+    Shape { antecedent_points: 3, antecedent_rows: 3, consequents: 3, consequent_points: 3, consequent_rows: 3 };
+pub const LARGE: Shape =
+    Shape { antecedent_points: 4, antecedent_rows: 8, consequents: 6, consequent_points: 8, consequent_rows: 4 };
+
+/// Sheets whose antiscenarios place at most two points freely, for logs of thousands of lines.
+pub const NARROW: Shape =
+    Shape { antecedent_points: 1, antecedent_rows: 1, consequents: 1, consequent_points: 3, consequent_rows: 2 };
+
+/// Sheet S of document 01.
+pub fn sheet_s() -> Vec<u8> {
+    let rows = [
+        Row::new(0, POINT, 1, 0, 8, 0),
+        Row::new(1, LAST, 11, 1, 4, 0),
+        Row::new(1, WITHIN, 11, 1, 0, 500),
+        Row::new(1, FREE, 11, 1, 2, 0),
+    ];
+    sheet::text(1, &rows)
+}
+
+fn bit(event: u32) -> u32 {
+    1 << event
+}
+
+/// A set that is not empty: one event, two, all but one, all, or any.
+fn set(random: &mut Random) -> u32 {
+    match random.below(10) {
+        0..=3 => bit(random.pick(&EVENTS)),
+        4..=6 => bit(random.pick(&EVENTS)) | bit(random.pick(&EVENTS)),
+        7 => !bit(random.pick(&EVENTS)),
+        8 => u32::MAX,
+        _ => random.from_to(1, u32::MAX),
+    }
+}
+
+fn limits(random: &mut Random) -> (u32, u32) {
+    match random.below(10) {
+        0 => (0, u32::MAX),
+        1 => (random.from_to(0, 3), u32::MAX),
+        2 => (u32::MAX, u32::MAX),
+        3 | 4 => {
+            let both = random.from_to(0, 4);
+            (both, both)
+        }
+        _ => {
+            let low = random.from_to(0, 4);
+            (low, low + random.from_to(0, 4))
+        }
+    }
+}
+
+/// Two different ones of these points.
+fn two_of(random: &mut Random, points: &[u32]) -> (u32, u32) {
+    let first = random.below(points.len());
+    let second = (first + 1 + random.below(points.len() - 1)) % points.len();
+    (points[first], points[second])
+}
+
+fn with_ends(ordinary: &[u32]) -> Vec<u32> {
+    [ordinary, &[START, CLOSE]].concat()
+}
+
+/// A row of kinds 6 to 12 over the ordinary points known.
+fn demanding_row(random: &mut Random, section: u32, ordinary: &[u32]) -> Row {
+    let wanted = random.from_to(BEFORE, EVENT);
+    let possible = match ordinary.len() {
+        0 => wanted.clamp(FREE, OUTSIDE),
+        1 => wanted.max(FREE),
+        _ => wanted,
+    };
+    let any_two = two_of(random, &with_ends(ordinary));
+    match possible {
+        BEFORE | APART | SAME => {
+            let (p, q) = two_of(random, ordinary);
+            Row::new(section, possible, p, q, 0, 0)
+        }
+        FREE => Row::new(section, FREE, any_two.0, any_two.1, set(random), 0),
+        EVENT => {
+            let any_set = if random.one_in(5) { 0 } else { set(random) };
+            Row::new(section, EVENT, random.pick(ordinary), 0, any_set, 0)
+        }
+        _ => {
+            let (a, b) = limits(random);
+            Row::new(section, possible, any_two.0, any_two.1, a, b)
+        }
+    }
+}
+
+/// A row of kinds 2 to 5 that introduces p.
+fn introducing_row(random: &mut Random, section: u32, p: u32, ordinary: &[u32]) -> Row {
+    let wanted = random.from_to(NEXT, LATER);
+    if wanted >= EARLIER && ordinary.len() >= 2 {
+        let (q, a) = two_of(random, ordinary);
+        return Row::new(section, wanted, p, q, a, 0);
+    }
+    // NEXT may use the start and LAST the close; the other end of each is refused.
+    let (kind, end) = if wanted % 2 == 0 { (NEXT, START) } else { (LAST, CLOSE) };
+    let q = if ordinary.is_empty() || random.one_in(4) { end } else { random.pick(ordinary) };
+    Row::new(section, kind, p, q, set(random), 0)
+}
+
+fn antecedent(random: &mut Random, shape: &Shape) -> Vec<Row> {
+    let mut rows = Vec::new();
+    let points = if random.one_in(12) { 0 } else { random.from_to(1, shape.antecedent_points) };
+    let mut known: Vec<u32> = Vec::new();
+    for p in 1..=points {
+        rows.push(Row::new(0, POINT, p, 0, set(random), 0));
+        known.push(p);
+        if random.one_in(3) && shape.antecedent_rows > 0 {
+            rows.push(demanding_row(random, 0, &known));
+        }
+    }
+    for _ in 0..random.from_to(0, shape.antecedent_rows) {
+        rows.push(demanding_row(random, 0, &known));
+    }
+    rows
+}
+
+fn consequent(random: &mut Random, shape: &Shape, section: u32, antecedent_points: &[u32]) -> Vec<Row> {
+    let mut rows = Vec::new();
+    if random.one_in(10) {
+        return rows;
+    }
+    let mut known = antecedent_points.to_vec();
+    let mut introduced = 0;
+    let length = random.from_to(1, shape.consequent_points + shape.consequent_rows);
+    let mut demands = 0;
+    for _ in 0..length {
+        if introduced < shape.consequent_points && (random.one_in(2) || demands == shape.consequent_rows) {
+            introduced += 1;
+            let p = 10 * section + introduced;
+            rows.push(introducing_row(random, section, p, &known));
+            known.push(p);
+        } else if demands < shape.consequent_rows {
+            demands += 1;
+            rows.push(demanding_row(random, section, &known));
+        }
+    }
+    rows
+}
+
+/// A random sheet; one that has too many antiscenarios is refused with 11, every other is accepted.
+pub fn random(random: &mut Random, shape: &Shape) -> Vec<u8> {
+    let (k, rows) = random_rows(random, shape);
+    sheet::text(k, &rows)
+}
+
+pub fn random_rows(random: &mut Random, shape: &Shape) -> (u32, Vec<Row>) {
+    let k = random.from_to(0, shape.consequents);
+    let mut rows = antecedent(random, shape);
+    let points = sheet::introduced(&rows, 0);
+    for section in 1..=k {
+        rows.extend(consequent(random, shape, section, &points));
+    }
+    (k, rows)
+}

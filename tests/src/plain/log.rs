@@ -1,0 +1,92 @@
+//! A log read into arrays in one pass.
+use super::columns::read;
+use super::Refused;
+
+const MOST_LINES: usize = 4000;
+const FIRST_LINE: usize = 28;
+const LINE: usize = 15;
+
+/// Ticks by position, start and close among them; events as sets of one, none at the ends.
+pub struct Log {
+    pub n: u32,
+    pub ticks: [u32; MOST_LINES + 2],
+    pub events: [u32; MOST_LINES + 2],
+}
+
+fn first_line(text: &[u8]) -> Option<(u32, u32, u32)> {
+    let line = text.get(..FIRST_LINE)?;
+    if line[27] != b'\n' {
+        return None;
+    }
+    Some((read::<5>(line)?, read::<11>(&line[5..])?, read::<11>(&line[16..])?))
+}
+
+#[inline]
+fn line(text: &[u8]) -> Option<(u32, u32)> {
+    if text[14] != b'\n' {
+        return None;
+    }
+    Some((read::<11>(text)?, read::<3>(&text[11..])?))
+}
+
+impl Log {
+    pub fn read(text: &[u8]) -> Result<Log, Refused> {
+        let first = |refusal| (refusal, 0, text.len().min(FIRST_LINE));
+        let (n, start, close) = first_line(text).ok_or(first(21))?;
+        if n as usize > MOST_LINES {
+            return Err(first(22));
+        }
+        if text.len() != FIRST_LINE + LINE * n as usize {
+            return Err(first(23));
+        }
+        let mut log = Log { n, ticks: [0; MOST_LINES + 2], events: [0; MOST_LINES + 2] };
+        log.ticks[0] = start;
+        let mut before = start;
+        for (index, bytes) in text[FIRST_LINE..].chunks_exact(LINE).enumerate() {
+            let refused = |refusal| (refusal, FIRST_LINE + LINE * index, LINE);
+            let (tick, event) = line(bytes).ok_or(refused(24))?;
+            if event > 31 {
+                return Err(refused(25));
+            }
+            if tick < before {
+                return Err(refused(26));
+            }
+            log.ticks[index + 1] = tick;
+            log.events[index + 1] = 1 << event;
+            before = tick;
+        }
+        if close < before {
+            return Err(first(27));
+        }
+        log.ticks[n as usize + 1] = close;
+        Ok(log)
+    }
+
+    #[inline]
+    pub fn event_in(&self, position: u32, set: u32) -> bool {
+        self.events[position as usize] & set != 0
+    }
+
+    #[inline]
+    pub fn free(&self, x: u32, y: u32, set: u32) -> bool {
+        let (low, high) = (x.min(y) as usize, x.max(y) as usize);
+        low + 1 >= high || self.events[low + 1..high].iter().all(|event| event & set == 0)
+    }
+
+    /// The first position after one with an event of the set.
+    #[inline]
+    pub fn next(&self, after: u32, set: u32) -> Option<u32> {
+        let from = after as usize + 1;
+        let offset = self.events[from..=self.n as usize].iter().position(|event| event & set != 0)?;
+        Some((from + offset) as u32)
+    }
+
+    /// The last position before one with an event of the set.
+    #[inline]
+    pub fn last(&self, before: u32, set: u32) -> Option<u32> {
+        if before == 0 {
+            return None;
+        }
+        self.events[1..before as usize].iter().rposition(|event| event & set != 0).map(|index| index as u32 + 1)
+    }
+}

@@ -1,0 +1,122 @@
+//! The reference alone on the examples of document 01, and its two searches against each other.
+use super::antiscenario;
+use super::blunder::Blunder;
+use super::log::{self, Line, Log};
+use super::operations::{open, smallest_by_brute_force, verdict, violating, Opened, Verdict};
+use super::refusal::Refusal;
+use super::rows::{matchings, placement_count, points};
+use super::sheet::{self, Row};
+use super::weeded;
+use crate::generate::logs::{self, log_of};
+use crate::generate::sheets::{self, sheet_s};
+use crate::random::Random;
+
+fn pair(sheet_text: &[u8], lines: &[(u32, u32)]) -> Opened {
+    open(sheet_text, &log_of(lines).text(), Blunder::None)
+}
+
+fn violated(placement: &[u32], rows: &[u32]) -> Result<Verdict, Refusal> {
+    Ok(Verdict::Violated { placement: placement.to_vec(), rows: rows.to_vec() })
+}
+
+#[test]
+fn number_3_of_sheet_s() {
+    let opened = pair(&sheet_s(), &[]);
+    assert_eq!(opened.read_sheet(), Ok(4));
+    let text = "  1  5\n  0  1  1  0          8          0\n  1  3 11  1          4          0\n  1  1 19  0          2          0\n  1  6 11 19          0          0\n  1  6 19  1          0          0\n";
+    assert_eq!(opened.write(3, 3437), Ok(text.as_bytes().to_vec()));
+    assert_eq!(opened.write(3, text.len() - 1), Err(Refusal::Buffer));
+    assert_eq!(opened.write(5, 0), Err(Refusal::Number));
+}
+
+#[test]
+fn logs_of_sheet_s() {
+    let s = sheet_s();
+    let late = pair(&s, &[(100, 2), (300, 3), (900, 3)]);
+    assert_eq!(late.check(), violated(&[3], &[3]));
+    assert_eq!(late.search(2, 2), Ok(Some(vec![3, 1])));
+    assert_eq!(late.search(2, 1), Err(Refusal::Places));
+    assert_eq!(pair(&s, &[(100, 2), (300, 3), (600, 3)]).check(), Ok(Verdict::Holds));
+    assert_eq!(pair(&s, &[(100, 2), (300, 3), (601, 3)]).check(), violated(&[3], &[3]));
+    assert_eq!(pair(&s, &[(10, 3)]).check(), violated(&[1], &[2]));
+    let between = pair(&s, &[(100, 2), (200, 1), (300, 3)]);
+    assert_eq!(between.check(), violated(&[3], &[4]));
+    assert_eq!(between.search(3, 3), Ok(Some(vec![3, 1, 2])));
+    assert_eq!(pair(&s, &[]).check(), Ok(Verdict::Holds));
+}
+
+#[test]
+fn sheets_without_rows() {
+    for lines in [&[][..], &[(1, 1)][..]] {
+        let none = pair(b"  0  0\n", lines);
+        assert_eq!((none.read_sheet(), none.check()), (Ok(1), violated(&[], &[])));
+        let empty = pair(b"  1  0\n", lines);
+        assert_eq!((empty.read_sheet(), empty.check()), (Ok(0), Ok(Verdict::Holds)));
+    }
+}
+
+#[test]
+fn before_is_denied_by_same_too() {
+    let rows = [Row::new(0, 1, 1, 0, 8, 0), Row::new(0, 1, 2, 0, 8, 0), Row::new(1, 6, 1, 2, 0, 0)];
+    let opened = pair(&sheet::text(1, &rows), &[(5, 3)]);
+    assert_eq!(opened.search(1, 2), Ok(None));
+    assert_eq!(opened.search(2, 2), Ok(Some(vec![1, 1])));
+}
+
+#[test]
+fn largest_counts() {
+    let denials = |counts: [usize; 6]| {
+        let rows: Vec<Row> = std::iter::once(Row::new(0, 1, 1, 0, 8, 0))
+            .chain((1..).zip(counts).flat_map(|(section, count)| vec![Row::new(section, 12, 1, 0, 2, 0); count]))
+            .collect();
+        sheet::text(6, &rows)
+    };
+    assert_eq!(pair(&denials([4; 6]), &[]).read_sheet(), Ok(4096));
+    assert_eq!(pair(&denials([4, 4, 5, 4, 4, 4]), &[]).read_sheet(), Err(Refusal::TooManyAntiscenarios));
+    assert_eq!(pair(&denials([24, 24, 24, 24, 24, 0]), &[]).read_sheet(), Ok(0));
+}
+
+#[test]
+fn logs_refused_and_accepted() {
+    let lines = vec![Line { tick: 7, event: 32 }];
+    let event = Log { start: 0, close: 7, lines, blunder: Blunder::None };
+    assert_eq!(log::read(&event.text(), Blunder::None).unwrap_err().refusal, Refusal::Event);
+    assert_eq!(log::read(&log_of(&vec![(1, 1); 4001]).text(), Blunder::None).unwrap_err().refusal, Refusal::LineCount);
+    assert!(log::read(&log_of(&vec![(1, 1); 4000]).text(), Blunder::None).is_ok());
+}
+
+#[test]
+fn brute_force_and_weeding_agree() {
+    let mut random = Random::new(11);
+    let mut compared = 0;
+    while compared < 3000 {
+        let sheet_text = sheets::random(&mut random, &sheets::SMALL);
+        let log = logs::random(&mut random, 4);
+        let Ok(sheet) = sheet::read(&sheet_text, Blunder::None) else { continue };
+        let expected = match violating(&sheet, &log).first() {
+            None => Verdict::Holds,
+            Some(placement) => Verdict::Violated { placement: placement.clone(), rows: rows_of(verdict(&sheet, &log)) },
+        };
+        assert_eq!(verdict(&sheet, &log), expected);
+        for m in 1..=sheet.count.min(5) {
+            let rows = antiscenario::antiscenario(&sheet, m);
+            if placement_count(&log, points(&rows).len(), 3000) < 3000 {
+                let mut weeded = Vec::new();
+                weeded::visit(&rows, &log, &mut |positions| {
+                    weeded.push(positions.to_vec());
+                    false
+                });
+                assert_eq!(weeded, matchings(&rows, &log));
+                assert_eq!(weeded::smallest(&rows, &log), smallest_by_brute_force(&rows, &log));
+                compared += 1;
+            }
+        }
+    }
+}
+
+fn rows_of(verdict: Verdict) -> Vec<u32> {
+    match verdict {
+        Verdict::Holds => panic!("a placement violates and the verdict holds"),
+        Verdict::Violated { rows, .. } => rows,
+    }
+}

@@ -1,0 +1,15 @@
+//! Document 01 by its definitions and by brute force; shares nothing with the proved code.
+pub mod antiscenario;
+pub mod blunder;
+pub mod columns;
+pub mod log;
+pub mod operations;
+pub mod refusal;
+pub mod rows;
+pub mod sheet;
+pub mod weeded;
+
+#[cfg(test)]
+mod examples;
+#[cfg(test)]
+mod targets;

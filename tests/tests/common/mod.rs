@@ -1,0 +1,19 @@
+//! What the tests share: a panic for a mismatch, and the count of comparisons told past the harness.
+#![allow(dead_code)]
+use satskhubo_tests::compare::{compare, Mismatch};
+use satskhubo_tests::generate::pairs::pair_of;
+use satskhubo_tests::outcome::Side;
+use std::io::Write;
+
+/// Standard error itself, which the harness does not keep from the reader.
+pub fn tell(test: &str, comparisons: u64) {
+    writeln!(std::io::stderr(), "comparisons: {comparisons} ({test})").unwrap();
+}
+
+pub fn counted(result: Result<u64, Mismatch>) -> u64 {
+    result.unwrap_or_else(|Mismatch(text)| panic!("{text}"))
+}
+
+pub fn random_pairs<S: Side>(side: &S, first_seed: u64, pairs: u64) -> u64 {
+    (first_seed..first_seed + pairs).map(|seed| counted(compare(side, &pair_of(seed), seed, 6))).sum()
+}
