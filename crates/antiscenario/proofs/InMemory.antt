@@ -5,14 +5,14 @@ use mathlib.Core.List.{List, [], _∷_, _++_, map}
 use Prim.Native.Nat.{ℕ, zero, suc, _+_, _*_, _-_, _≤_}
 use native.Mathlib.Omega.{arith}
 use lib.ListN.{length}
-use Rattle.scenario.specs.Rows.{Row}
+use Rattle.scenario.specs.Rows.{Row, points}
 use Rattle.scenario.specs.Fields.{Tagged, tagged, written}
-use Rattle.scenario.specs.Sheet.{Sheet, flat, chosen, antiscenario}
+use Rattle.scenario.specs.Sheet.{Sheet, flat, chosen, count, antiscenario}
 use Rattle.scenario.specs.Reading.{Pattern}
-use Rattle.scenario.proofs.Patterns.{antiscenario-pattern}
+use Rattle.scenario.proofs.Patterns.{antiscenario-pattern, antiscenario-few-points, antiscenario-few-rows}
 use Rattle.sheet.specs.declared.Line.{Line}
 use Rattle.sheet.specs.declared.Answer.{Answer}
-use Rattle.sheet.specs.Reading.{sheetIn, taken, answer}
+use Rattle.sheet.specs.Reading.{sheetIn, countIn, taken, answer}
 use Rattle.sheet.specs.Memory.{lay, lineIn, linesIn}
 use Rattle.sheet.proofs.Theorems.{accepted-sheet}
 use Rattle.pattern.specs.Decode.{decode, rowAt, listed, rowsOf}
@@ -80,7 +80,11 @@ pub written-size : (s : List ℕ) (m : ℕ) → length (writtenLines s m) ≡ le
 unfolding writtenLines
 written-size s m = sym (lines-rows (writtenLines s m)) ∙ ap length (rows-written (sheetIn s) m)
 
--- "At most 98 rows": 32 of the antecedent, and 11 of each of at most 6 consequents
-pub written-few : (s : List ℕ) (m : ℕ) → length (sheetIn s .consequents) ≤ 6 → length (sheetIn s .antecedent) ≤ 32
-    → length (antiscenario (sheetIn s) m) ≤ length (sheetIn s .antecedent) + 11 * length (sheetIn s .consequents) → length (writtenLines s m) ≤ 98
-written-few s m c a r = omega (arith, written-size s m)
+-- "At most 58 points and 98 rows": 32 of the antecedent, and 11 of each of at most 6 consequents.
+pub written-few : (s : List ℕ) → answer s .refusal ≡ 0 → (m : ℕ) → 1 ≤ m → m ≤ countIn s → (length (points (antiscenario (sheetIn s) m)) ≤ 58) × (length (writtenLines s m) ≤ 98)
+written-few s e m low high =
+    let S = accepted-sheet s e in
+    let h : m ≤ count (sheetIn s) = omega (arith, S .count) in (
+      antiscenario-few-points (sheetIn s) (S .read) m low h,
+      omega (arith, written-size s m, antiscenario-few-rows (sheetIn s) (S .read) m low h, S .antecedent-room, S .read .count),
+    )

@@ -1,11 +1,15 @@
 -- The front door: the three demands over bytes, for every sheet and log that reading accepts.
 -- Assumes nothing.
 use mathlib.Core.Path.{_≡_}
+use mathlib.Core.Logic.{_↔_}
 use mathlib.Core.List.{List}
 use Prim.Native.Nat.{ℕ}
-use Rattle.sheet.specs.Reading.{answer, taken}
-use Rattle.sheet.specs.Text.{sheetText}
-use Rattle.sheet.proofs.Theorems.{accepted-sheet}
+use Rattle.scenario.specs.Log.{Log}
+use Rattle.sheet.specs.Reading.{answer}
+use Rattle.sheet.proofs.OneText.{Spelt, accepted-spelt, Determined, determined}
+use Rattle.runlog.specs.Log.{answer as log-answer}
+use Rattle.runlog.specs.Text.{ValidLog}
+use Rattle.runlog.proofs.Theorems.{AcceptedLog, accepted-text, OneText, one-text}
 use Rattle.antiscenario.specs.Plain.{ReadsAs}
 use Rattle.antiscenario.specs.Write.{writtenText, writtenLines}
 use Rattle.antiscenario.proofs.Demand.{written-says, written-only}
@@ -14,9 +18,17 @@ use Rattle.verdict.specs.Check.{Accepted, checkOf}
 use Rattle.verdict.specs.Demands.{DemandThree}
 use Rattle.verdict.proofs.DemandThree.{demand-bytes}
 
--- Demand 1: the text of an accepted sheet is that of its rows, and no other.
-pub demand-one : (s : List ℕ) → answer s .refusal ≡ 0 → s ≡ sheetText (answer s .k) (taken s .lines)
-demand-one s accepted = accepted-sheet s accepted .text
+-- Demand 1. What is refused, with which number, and that lent memory is unchanged then, is in each operation's contract, an equation with its definition
+-- (`load_sheet`, `load_log`, `read_sheet`, `read_log`, `judge`, `write_antiscenario`, `search_antiscenario`, `check`, `show_line`, and the exports of `bench`).
+-- Here: the accepted texts are exactly the spellings of rows and of lines that keep the rules, and each is that of its own rows or lines alone.
+pub record DemandOne : Type 0 where
+  pub sheets : (s : List ℕ) → (answer s .refusal ≡ 0) ↔ Spelt s
+  pub one-sheet : (s t : List ℕ) → answer s .refusal ≡ 0 → answer t .refusal ≡ 0 → Determined s t
+  pub logs : (l : List ℕ) → log-answer l .refusal ≡ 0 → AcceptedLog l
+  pub one-log : (g : Log) → ValidLog g → OneText g
+
+pub demand-one : DemandOne
+demand-one = record { sheets = accepted-spelt; one-sheet = determined; logs = accepted-text; one-log = one-text }
 
 -- Demand 2: the text of antiscenario m, read by the columns alone, says k and its rows, each with the section it came from; and no other text says them.
 pub record DemandTwo (s : List ℕ) (m : ℕ) : Type 0 where

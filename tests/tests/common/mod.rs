@@ -17,3 +17,13 @@ pub fn counted(result: Result<u64, Mismatch>) -> u64 {
 pub fn random_pairs<S: Side>(side: &S, first_seed: u64, pairs: u64) -> u64 {
     (first_seed..first_seed + pairs).map(|seed| counted(compare(side, &pair_of(seed), seed, 6))).sum()
 }
+
+/// The repository's top, where programs, examples and the script stand.
+pub fn top() -> std::path::PathBuf {
+    std::path::Path::new(env!("CARGO_MANIFEST_DIR")).parent().expect("the tests stand in the repository").to_path_buf()
+}
+
+/// What a program wrote to its standard output.
+pub fn said(output: &std::process::Output) -> String {
+    String::from_utf8_lossy(&output.stdout).into_owned()
+}
