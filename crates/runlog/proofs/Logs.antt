@@ -9,11 +9,11 @@ use lib.ListN.{length, getD, drop, length-take, length-drop, List·getD-eq-defau
 use lib.Seq.{getD-take, getD-drop}
 use lib.Dec.{T, ltb, leb, eqb, not-T}
 use borrow.Author.Tests.{lt-ltb, le-ltb, le-leb, lt-leb, eq-eqb, ne-eqb}
-use Rattle.scenario.specs.Rows.{between, clear}
+use Rattle.scenario.specs.Rows.{between, clear, full-set}
 use Rattle.scenario.specs.Log.{inSet, hasAt, tick, nearAt, runOf}
 use Rattle.scenario.proofs.Base.{is-true, is-false, getD-all, Order, lower, level, upper, order}
 use Rattle.scenario.proofs.Rules.{Laws, between-up, between-down, Between, up, down, between-way, clear-put, clear-get}
-use Rattle.scenario.proofs.Logs.{laws}
+use Rattle.scenario.proofs.Logs.{laws, inSet-full}
 use Rattle.runlog.specs.Held.{Events, Held, part, logOf, runAt, bare, tickOf, gap, nearOf}
 
 -- the default does not matter in a list
@@ -50,6 +50,9 @@ module _ (events : List ℕ) (n : ℕ) (E : Events events n) (s x : ℕ) where
   pub has-in : 1 ≤ x → x ≤ n → hasAt (part events n) s x ≡ inSet s (getD events x 0)
   unfolding hasAt
   has-in lo hi = rw (part-length events n (E .room), part-at events n (E .room) x 0 lo hi) (simp (le-leb 1 x lo, le-leb x n hi))
+
+  pub has-full : 1 ≤ x → x ≤ n → s ≡ full-set → T (hasAt (part events n) s x)
+  has-full lo hi e = subst T (sym (has-in lo hi ∙ ap (λ (z : ℕ). inSet z (getD events x 0)) e ∙ inSet-full (getD events x 0) (E .small x))) tt
 
 -- the laws of its run
 pub bare-laws : (events : List ℕ) (n : ℕ) → Events events n → Laws (runOf (logOf [] events n))

@@ -338,19 +338,28 @@ pub fn near(ticks: &[u32], n: u32, x: u32, y: u32, lo: u64, hi: u64) -> bool
     d <= hi
 }
 
+// The first position after x and up to top with its event in s, or 0.
+pub fn first_within(events: &[u32], n: u32, s: u64, x: u32, top: u32) -> u32
+    requires { ⌜ Events (now events) n × (top ≤ n) ⌝ }
+    ensures { λ r. ⌜ r ≡ orZero (lowest-above (hasAt (part (now (events .entry)) n) s) x (top - x)) ⌝ }
+{
+    let mut v = x;
+    while v < top {
+        v += 1;
+        let i = v as usize;
+        if member(s, events[i]) {
+            return v;
+        }
+    }
+    0
+}
+
 // The first position after x with its event in s, or 0.
 pub fn first_after(events: &[u32], n: u32, s: u64, x: u32) -> u32
     requires { ⌜ Events (now events) n ⌝ }
     ensures { λ r. ⌜ r ≡ orZero (lowest-above (hasAt (part (now (events .entry)) n) s) x (n - x)) ⌝ }
 {
-    let mut v = x;
-    while v < n {
-        v += 1;
-        if has(events, n, s, v) {
-            return v;
-        }
-    }
-    0
+    first_within(events, n, s, x, n)
 }
 
 // The last position before x with its event in s, or 0.

@@ -1,14 +1,14 @@
 -- The laws of a log: a set and its complement part the lines.
 -- Assumes nothing.
 use mathlib.Core.Path.{_≡_, sym, _∙_, ap}
-use mathlib.Core.Bool.{not, _&&_}
+use mathlib.Core.Bool.{true, false, not, _&&_}
 use Prim.Native.Nat.{ℕ, zero, suc, _-_, _*_, _/_, _%_, _^_, _<_}
 use native.Mathlib.Omega.{arith}
 use native.Mathlib.Nat.{div-div-eq-div-mul, div-one, pow-succ'}
 use mathlib.Core.Logic.{⊎-elim}
 use lib.ListN.{length, getD}
 use lib.Dec.{leb, eqb, leb→le, le→leb, eqb→eq}
-use Rattle.scenario.specs.Rows.{event-count, complement}
+use Rattle.scenario.specs.Rows.{event-count, full-set, complement}
 use Rattle.scenario.specs.Log.{Log, inSet, hasAt, runOf}
 use Rattle.scenario.proofs.Base.{both, tell, is-true, is-false, eq→eqb, neq→neqb, neqb→neq, all-getD}
 use Rattle.scenario.specs.Reading.{IsEvents, LogRead}
@@ -47,6 +47,14 @@ inSet-complement (suc e) (suc k) s h l =
   where
     halves : (2 ^ suc k - 1 - s) / 2 ≡ 2 ^ k - 1 - s / 2
     halves = omega (arith, pow-succ' 2 k)
+
+inSet-none : (e : ℕ) → inSet 0 e ≡ false
+inSet-none zero = inSet-zero 0
+inSet-none (suc e) = inSet-suc 0 e ∙ inSet-none e
+
+-- every event is in the full set
+pub inSet-full : (e : ℕ) → e < event-count → inSet full-set e ≡ true
+inSet-full e h = inSet-complement e event-count 0 h (omega arith) ∙ ap not (inSet-none e)
 
 -- The laws of a log that is read.
 pub laws : (g : Log) → LogRead g → Laws (runOf g)

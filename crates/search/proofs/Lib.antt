@@ -1,5 +1,6 @@
 pub mod Steps
 pub mod Jump
+pub mod Links
 pub mod Found
 pub mod Preparing
 pub mod Finding

@@ -26,7 +26,7 @@ use Rattle.antiscenario.proofs.InMemory.{rows-built, rows-at-most, pattern-buil
 use Rattle.search.specs.declared.SearchAnswer.{SearchAnswer}
 use Rattle.search.specs.Matching.{filled, isFound}
 use Rattle.search.specs.Searching.{Searched, answered, unsearched, searched, searchRows, searchOf, Matches, Told}
-use Rattle.search.proofs.Turn.{not-resumed}
+use Rattle.search.proofs.Steps.{never}
 
 -- Rows in memory
 
@@ -108,8 +108,8 @@ module _ (s l : List ℕ) (m : ℕ) (places : List ℕ) where
 
   answer-right : (a : Answer) → Says (Matches s l m) a → Right (searched places a)
   unfolding filled
-  answer-right nothing S e = record { none = (λ h. S, λ h. refl); kept = λ h. refl; smallest = λ h. not-resumed h }
-  answer-right (found xs) S e = record { none = (λ h. not-resumed (sym h), λ h. absurd (h xs (S .has))); kept = λ h. not-resumed (sym h); smallest = λ h. (xs, S, refl) }
+  answer-right nothing S e = record { none = (λ h. S, λ h. refl); kept = λ h. refl; smallest = λ h. never h }
+  answer-right (found xs) S e = record { none = (λ h. never (sym h), λ h. absurd (h xs (S .has))); kept = λ h. never (sym h); smallest = λ h. (xs, S, refl) }
 
   -- THE THEOREM: where the search over bytes is not refused, it says "none" exactly if no matching exists, and else has the smallest
   pub search-says-bytes : searchOf s l m places .refusal ≡ 0 → Told s l m places (searchOf s l m places)
