@@ -6,26 +6,27 @@ use mathlib.Core.List.{List, [], _∷_, _++_, map, append-nil}
 use Prim.Native.Nat.{ℕ, zero, suc, _+_, _-_, _*_, _≤_, _<_}
 use native.Mathlib.Numerals.{add-one}
 use native.Mathlib.Omega.{arith}
-use lib.ListN.{length, getD, take, drop, replicate, length-map, length-append}
-use lib.Seq.{take-at}
-use lib.Dec.{T, not-T}
+use lib.ListN.{length, getD, set, take, drop, replicate, length-map, length-append, getD-replicate}
+use lib.Seq.{take-at, getD-set-other}
+use lib.Dec.{T, eqb, not-T}
 use borrow.Author.Tests.{eq-eqb, ne-eqb}
 use Rattle.scenario.specs.Rows.{Row, Run, points, elem}
 use Rattle.scenario.specs.Walk.{walk}
-use Rattle.scenario.specs.Sheet.{Sheet, Answer, nothing, found, Says, matching, all, env, count as countOf, antiscenario, chosen, choices, choose, total, flat}
+use Rattle.scenario.specs.Sheet.{Sheet, Answer, nothing, found, Says, matching, no-larger, all, env, count as countOf, antiscenario, chosen, choices, choose, total, flat}
 use Rattle.scenario.specs.Search.{least, smallest-matching, stopped, is-violating, check, faults}
 use Rattle.scenario.specs.Fields.{Tagged, tagged}
 use Rattle.scenario.proofs.Base.{both, pair, all-map}
 use Rattle.scenario.specs.Reading.{All, Ordinary, SheetRead, Pattern}
 use Rattle.scenario.proofs.Rules.{Laws}
 use Rattle.scenario.proofs.Place.{env-map}
-use Rattle.scenario.proofs.Least.{search-says}
+use Rattle.scenario.proofs.Least.{Placed, search-says, least-says, says-map}
+use Rattle.scenario.proofs.Final.{answers-are-determined}
 use Rattle.scenario.proofs.Prefix.{least-none}
 use Rattle.scenario.proofs.Reading.{sound}
 use Rattle.scenario.proofs.Agreement.{Base, is-start, is-close, is-antecedent}
 use Rattle.runlog.specs.Held.{Held, runAt}
 use Rattle.pattern.specs.Decode.{by, rowAt, listed, rowsOf}
-use Rattle.search.specs.Matching.{behind, after, next-matching, isFound}
+use Rattle.search.specs.Matching.{after, next-matching, isFound}
 use Rattle.search.specs.Placing.{ready, planOf, Prepared, Fixture, Latest}
 use Rattle.runlog.proofs.Logs.{seen-laws, part-length}
 use Rattle.search.proofs.Finding.{blank as blank-env, planned}
@@ -37,7 +38,9 @@ use Rattle.verdict.specs.Check.{front, violatedAt, verdictOf, blank}
 use Rattle.verdict.specs.Consequents.{tagAt, tagsOf, faultsIn}
 use Rattle.verdict.specs.Memory.{sheetAt, SheetHeld, leading, AntecedentPrepared}
 use Rattle.verdict.proofs.Consequents.{tag, faults-length, all-halt, fault-rows}
-use Rattle.search.proofs.Turn.{still, turn-keeps, turn-none, turn-matches, turn-hit, turn-miss, turn-on, turn-falls}
+use Rattle.search.proofs.Steps.{never}
+use Rattle.search.proofs.Matchings.{lex-first, past, past-below}
+use Rattle.search.proofs.Turn.{still, turn-keeps, turn-none, turn-matches, turn-hit, turn-miss, turn-last, turn-on, turn-falls, point-small, point-line, passed-is, passed-keeps}
 
 -- The antecedent's rows stand first.
 
@@ -146,6 +149,19 @@ made p k positions rows = record { refusal = 0; violated = true; points = p; con
 checked-same : (p q k l : ℕ) (a b r s : List ℕ) → p ≡ q → k ≡ l → a ≡ b → r ≡ s → made p k a r ≡ made q l b s
 checked-same p q k l a b r s e f g h = rw (e, f, g, h)
 
+-- what going past a placement says of the number of points
+pub no-points : (np : ℕ) (r : Bool) → r ≡ not (eqb np 0) → r ≡ false → np ≡ 0
+no-points zero r e f = refl
+no-points (suc np) r e f = never (sym f ∙ e ∙ ap not (ne-eqb (suc np) 0 (λ z. omega arith)))
+
+pub some-points : (np : ℕ) (r : Bool) → r ≡ not (eqb np 0) → r ≡ true → np ≡ 0 → ⊥
+some-points zero r e t z = let z : _≡_ {A = ℕ} 0 1 = cc in absurd (omega arith)
+some-points (suc np) r e t z = omega arith
+
+-- every point but the close stands at 0 at the start
+blank-zero : (n m : ℕ) → (m ≡ 99 → ⊥) → m < 100 → getD (blank-env (n + 1)) m 0 ≡ 0
+blank-zero n m h l = getD-set-other (replicate 100 0) 99 m (n + 1) 0 h ∙ getD-replicate 100 m 0 0 l
+
 -- The loop
 
 module _ (ticks events : List ℕ) (n : ℕ) (H : Held ticks events n) (rows : List ℕ) (count k : ℕ) (S : SheetHeld rows count k) (antecedent : ℕ) (pts : List ℕ) (np : ℕ) (due : List ℕ)
@@ -172,6 +188,13 @@ module _ (ticks events : List ℕ) (n : ℕ) (H : Held ticks events n) (rows : L
   pub prepared : ready run rows due antecedent (blank-env (n + 1)) 0 ≡ true → Prepared run n rows due antecedent pts np (blank-env (n + 1))
   prepared e = record { plan = P .plan; pattern = P .pattern; number = P .number; front = P .front; roomy = P .roomy; few = P .few; ready = e; fixed = fixture }
 
+  all-at-points : (X : ℕ → Type 0) → ((m : ℕ) → Ordinary m → m < 100 → X (getD (blank-env (n + 1)) m 0)) → All X (map (by (blank-env (n + 1))) (points rs))
+  all-at-points X h = go (points rs) (all-map (λ m q. h m (q .0) (q .1)) (points rs) (P .pattern .plain))
+    where
+      go : (l : List ℕ) → All (λ (m : ℕ). X (getD (blank-env (n + 1)) m 0)) l → All X (map (by (blank-env (n + 1))) l)
+      go [] q = tt
+      go (m ∷ l) q = (q .0, go l (q .1))
+
   pub holds : check run sheet ≡ nothing → blank 0 ≡ verdictOf run sheet (check run sheet)
   unfolding verdictOf
   holds e = rw e
@@ -188,9 +211,28 @@ module _ (ticks events : List ℕ) (n : ℕ) (H : Held ticks events n) (rows : L
       no-match : (xs : List ℕ) → T (matching run rs xs) → ⊥
       no-match xs t = subst (Says (λ zs. T (matching run rs zs))) none (search-says run rs) xs t
 
-  pub begin : (zs : List ℕ) → least (run .lines) (length (points rs)) (λ ys. behind false zs ys && is-violating run sheet ys) ≡ check run sheet
+  pub begin : least (run .lines) (length (points rs)) (λ ys. no-larger (map (by (blank-env (n + 1))) (points rs)) ys && is-violating run sheet ys) ≡ check run sheet
   unfolding check
-  begin zs = ap (λ (z : List Row). least (run .lines) (length (points z)) (is-violating run sheet)) (P .antecedent-rows)
+  begin =
+      answers-are-determined (Placed (run .lines) (length (points rs)) (is-violating run sheet)) (least (run .lines) (length (points rs)) (λ ys. no-larger zs ys && is-violating run sheet ys))
+      (least (run .lines) (length (points rs)) (is-violating run sheet))
+      (says-map
+      (λ ys q. record { size = q .size; lines = q .lines; passes = both (no-larger zs ys) (is-violating run sheet ys) (q .passes) .1 })
+      (λ ys q. record { size = q .size; lines = q .lines; passes = pair (no-larger zs ys) (is-violating run sheet ys) (lex-first zs ys zeros (q .size ∙ sym (length-map (points rs) (by (blank-env (n + 1)))))) (q .passes) })
+      (least (run .lines) (length (points rs)) (λ ys. no-larger zs ys && is-violating run sheet ys))
+      (least-says (run .lines) (length (points rs)) (λ ys. no-larger zs ys && is-violating run sheet ys)))
+      (least-says (run .lines) (length (points rs)) (is-violating run sheet))
+      ∙ ap (λ (z : List Row). least (run .lines) (length (points z)) (is-violating run sheet)) (P .antecedent-rows)
+    where
+      zs : List ℕ
+      zs = map (by (blank-env (n + 1))) (points rs)
+
+      zeros : All (λ (z : ℕ). z ≡ 0) zs
+      zeros = all-at-points (λ (z : ℕ). z ≡ 0) (λ m q l. blank-zero n m (q .not-close) l)
+
+  -- positions at the start are few
+  pub begin-below : All (λ (x : ℕ). x < run .lines + 2) (map (by (blank-env (n + 1))) (points rs))
+  begin-below = all-at-points (λ (x : ℕ). x < run .lines + 2) (λ m q l. omega (arith, blank-zero n m (q .not-close) l))
 
   -- A placement that is a matching of the antecedent
   module _ (E : List ℕ) (F : Fixture run E) (m : T (matching run rs (map (by E) (points rs)))) (f : Faults) (ef : f ≡ faultsIn run (tagsOf rows count) E 0 k (replicate 6 0)) where
@@ -237,45 +279,72 @@ module _ (ticks events : List ℕ) (n : ℕ) (H : Held ticks events n) (rows : L
         ∙ ap (verdictOf run sheet) (sym ec)
 
   -- A turn of the loop: E is the array before, r and E' what going on to the next matching gives.
-  module _ (re : ready run rows due antecedent (blank-env (n + 1)) 0 ≡ true) (E : List ℕ) (F : Fixture run E) (b : Bool)
-      (inv : least (run .lines) (length (points rs)) (λ ys. behind b (map (by E) (points rs)) ys && is-violating run sheet ys) ≡ check run sheet)
-      (r : Bool) (E' : List ℕ) (er : r ≡ isFound (next-matching run rs b (map (by E) (points rs)))) (ee : E' ≡ after E (points rs) (next-matching run rs b (map (by E) (points rs)))) where
+  module _ (re : ready run rows due antecedent (blank-env (n + 1)) 0 ≡ true) (E : List ℕ) (F : Fixture run E)
+      (inv : least (run .lines) (length (points rs)) (λ ys. no-larger (map (by E) (points rs)) ys && is-violating run sheet ys) ≡ check run sheet)
+      (r : Bool) (E' : List ℕ) (er : r ≡ isFound (next-matching run rs (map (by E) (points rs)))) (ee : E' ≡ after E (points rs) (next-matching run rs (map (by E) (points rs)))) where
     abbrev up : Answer
-    up = next-matching run rs b (map (by E) (points rs))
+    up = next-matching run rs (map (by E) (points rs))
 
     moved : (X : List ℕ → Type 0) → X (after E (points rs) up) → X E'
     moved X h = subst X (sym ee) h
 
     pub loop-none : r ≡ false → blank 0 ≡ verdictOf run sheet (check run sheet)
-    loop-none q = holds (sym inv ∙ turn-none run n rows due antecedent pts np (blank-env (n + 1)) (prepared re) (is-violating run sheet) only E F b up refl (sym er ∙ q))
+    loop-none q = holds (sym inv ∙ turn-none run n rows due antecedent pts np (blank-env (n + 1)) (prepared re) (is-violating run sheet) only E F up refl (sym er ∙ q))
 
     pub loop-keeps : Fixture run E'
-    loop-keeps = moved (Fixture run) (turn-keeps run n rows due antecedent pts np (blank-env (n + 1)) (prepared re) (is-violating run sheet) only E F b up)
+    loop-keeps = moved (Fixture run) (turn-keeps run n rows due antecedent pts np (blank-env (n + 1)) (prepared re) (is-violating run sheet) only E F up)
 
     module _ (t : r ≡ true) where
       pub loop-on : All (λ (x : ℕ). (1 ≤ x) × (x ≤ run .lines)) (map (by E') (points rs))
       loop-on = moved (λ z. All (λ (x : ℕ). (1 ≤ x) × (x ≤ run .lines)) (map (by z) (points rs)))
-          (turn-on run n rows due antecedent pts np (blank-env (n + 1)) (prepared re) (is-violating run sheet) only E F b up refl (sym er ∙ t))
+          (turn-on run n rows due antecedent pts np (blank-env (n + 1)) (prepared re) (is-violating run sheet) only E F up refl (sym er ∙ t))
 
-      pub loop-falls : (b ≡ true → All (λ (x : ℕ). (1 ≤ x) × (x ≤ run .lines)) (map (by E) (points rs)))
-          → still (run .lines) (length (points rs)) true (map (by E') (points rs)) < still (run .lines) (length (points rs)) b (map (by E) (points rs))
-      loop-falls o = moved (λ z. still (run .lines) (length (points rs)) true (map (by z) (points rs)) < still (run .lines) (length (points rs)) b (map (by E) (points rs)))
-          (turn-falls run n rows due antecedent pts np (blank-env (n + 1)) (prepared re) (is-violating run sheet) only E F b up refl (sym er ∙ t) o)
+      -- room to go past it
+      pub loop-room : (i : ℕ) → i < np → (getD pts i 0 < 100) × (getD E' (getD pts i 0) 0 ≤ 4000)
+      loop-room i h = (
+        point-small run n rows due antecedent pts np (blank-env (n + 1)) (prepared re) (is-violating run sheet) only i h,
+        omega (arith, point-line run n rows due antecedent pts np (blank-env (n + 1)) (prepared re) (is-violating run sheet) only E' loop-on i h, part-length events n (H .lines .room), H .lines .few),
+      )
 
       match-there : T (matching run rs (map (by E') (points rs)))
-      match-there = moved (λ z. T (matching run rs (map (by z) (points rs)))) (turn-matches run n rows due antecedent pts np (blank-env (n + 1)) (prepared re) (is-violating run sheet) only E F b up refl (sym er ∙ t))
+      match-there = moved (λ z. T (matching run rs (map (by z) (points rs)))) (turn-matches run n rows due antecedent pts np (blank-env (n + 1)) (prepared re) (is-violating run sheet) only E F up refl (sym er ∙ t))
 
       module _ (f : Faults) (ef : f ≡ faultsIn run (tagsOf rows count) E' 0 k (replicate 6 0)) where
         pub loop-hit : f .all ≡ true → (at : List ℕ) → at ≡ map (by E') (take np pts) ++ drop np (replicate 4 0)
             → made np k at (f .rows) ≡ verdictOf run sheet (check run sheet)
         loop-hit e at ea = answered E' loop-keeps match-there f ef e at ea
-            (sym inv ∙ turn-hit run n rows due antecedent pts np (blank-env (n + 1)) (prepared re) (is-violating run sheet) only E F b up refl (sym er ∙ t)
+            (sym inv ∙ turn-hit run n rows due antecedent pts np (blank-env (n + 1)) (prepared re) (is-violating run sheet) only E F up refl (sym er ∙ t)
             (subst (λ (z : List ℕ). T (is-violating run sheet (map (by z) (points rs)))) ee (hit E' loop-keeps match-there f ef e))
             ∙ ap (λ (z : List ℕ). found (map (by z) (points rs))) (sym ee))
 
-        pub loop-miss : f .all ≡ false → least (run .lines) (length (points rs)) (λ ys. behind true (map (by E') (points rs)) ys && is-violating run sheet ys) ≡ check run sheet
-        loop-miss e =
-            ap (λ (z : List ℕ). least (run .lines) (length (points rs)) (λ ys. behind true (map (by z) (points rs)) ys && is-violating run sheet ys)) ee
-            ∙ sym (turn-miss run n rows due antecedent pts np (blank-env (n + 1)) (prepared re) (is-violating run sheet) only E F b up refl (sym er ∙ t)
-            (subst (λ (z : List ℕ). T (not (is-violating run sheet (map (by z) (points rs))))) ee (miss E' loop-keeps match-there f ef e)))
-            ∙ inv
+        missed : f .all ≡ false → T (not (is-violating run sheet (map (by (after E (points rs) up)) (points rs))))
+        missed e = subst (λ (z : List ℕ). T (not (is-violating run sheet (map (by z) (points rs))))) ee (miss E' loop-keeps match-there f ef e)
+
+        -- without points there is no other
+        pub loop-last : f .all ≡ false → np ≡ 0 → blank 0 ≡ verdictOf run sheet (check run sheet)
+        loop-last e z = holds (sym inv ∙ turn-last run n rows due antecedent pts np (blank-env (n + 1)) (prepared re) (is-violating run sheet) only E F up refl (sym er ∙ t) (missed e) (sym (P .number) ∙ z))
+
+        -- gone past it
+        module _ (nz : np ≡ 0 → ⊥) (E″ : List ℕ) (ep : E″ ≡ set E' (getD pts (np - 1) 0) (getD E' (getD pts (np - 1) 0) 0 + 1)) where
+          some : length (points rs) ≡ 0 → ⊥
+          some z = nz (P .number ∙ z)
+
+          passed : map (by E″) (points rs) ≡ past (map (by E') (points rs))
+          passed = ap (λ (z : List ℕ). map (by z) (points rs)) ep ∙ passed-is run n rows due antecedent pts np (blank-env (n + 1)) (prepared re) (is-violating run sheet) only some E' loop-keeps
+
+          pub loop-miss : f .all ≡ false → least (run .lines) (length (points rs)) (λ ys. no-larger (map (by E″) (points rs)) ys && is-violating run sheet ys) ≡ check run sheet
+          loop-miss e =
+              ap (λ (z : List ℕ). least (run .lines) (length (points rs)) (λ ys. no-larger z ys && is-violating run sheet ys)) (passed ∙ ap (λ (z : List ℕ). past (map (by z) (points rs))) ee)
+              ∙ sym (turn-miss run n rows due antecedent pts np (blank-env (n + 1)) (prepared re) (is-violating run sheet) only E F up refl (sym er ∙ t) (missed e) some)
+              ∙ inv
+
+          pub pass-keeps : Fixture run E″
+          pass-keeps = subst (Fixture run) (sym ep) (passed-keeps run n rows due antecedent pts np (blank-env (n + 1)) (prepared re) (is-violating run sheet) only some E' loop-keeps)
+
+          pub pass-below : All (λ (x : ℕ). x < run .lines + 2) (map (by E″) (points rs))
+          pass-below = subst (All (λ (x : ℕ). x < run .lines + 2)) (sym passed)
+              (all-map (λ x q. omega arith) (past (map (by E') (points rs))) (past-below (run .lines + 1) (map (by E') (points rs)) (all-map (λ x q. omega (arith, q .1)) (map (by E') (points rs)) loop-on)))
+
+          pub loop-falls : All (λ (x : ℕ). x < run .lines + 2) (map (by E) (points rs)) → still (run .lines) (length (points rs)) (map (by E″) (points rs)) < still (run .lines) (length (points rs)) (map (by E) (points rs))
+          loop-falls h = subst (λ (z : List ℕ). still (run .lines) (length (points rs)) z < still (run .lines) (length (points rs)) (map (by E) (points rs))) (sym (passed ∙ ap (λ (z : List ℕ). past (map (by z) (points rs))) ee))
+              (turn-falls run n rows due antecedent pts np (blank-env (n + 1)) (prepared re) (is-violating run sheet) only E F up refl (sym er ∙ t) h some)

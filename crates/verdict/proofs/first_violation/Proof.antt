@@ -1,128 +1,131 @@
 -- `first_violation` meets its contract: the smallest violating placement at or after where the loop stands is the smallest of all.
 use borrow.Author.Needs.{needs}
 use mathlib.Core.Path.{_≡_, sym, ap, _∙_}
-use mathlib.Core.Bool.{_&&_, true}
+use mathlib.Core.Bool.{_&&_}
 use mathlib.Core.List.{map}
-use Prim.Native.Nat.{ℕ, _+_, _-_, _≤_}
+use Prim.Native.Nat.{ℕ, _+_, _<_}
 use native.Mathlib.Omega.{arith}
 use lib.ListN.{length}
 use borrow.Author.Tests.{not-true, not-false}
 use Rattle.scenario.specs.Rows.{points}
+use Rattle.scenario.specs.Sheet.{no-larger}
 use Rattle.scenario.specs.Search.{least, check, is-violating}
 use Rattle.scenario.specs.Reading.{All}
 use Rattle.runlog.specs.Held.{runAt, part}
 use Rattle.pattern.specs.Decode.{by, rowsOf}
-use Rattle.search.specs.Matching.{behind}
 use Rattle.search.specs.Placing.{Fixture}
 use Rattle.search.proofs.Finding.{blank}
 use Rattle.verdict.specs.Memory.{sheetAt}
-use Rattle.search.proofs.Turn.{not-resumed, still}
-use Rattle.verdict.proofs.Matchings.{holds, unready, fixture, prepared, begin, loop-none, loop-keeps, loop-on, loop-falls, loop-hit, loop-miss}
+use Rattle.search.proofs.Turn.{still}
+use Rattle.verdict.proofs.Matchings.{no-points, some-points, holds, unready, fixture, prepared, begin, begin-below, loop-none, loop-keeps, loop-room, loop-hit, loop-last, loop-miss, pass-keeps, pass-below, loop-falls}
 use Rattle.verdict.proofs.first_violation.Statement.{statement}
 use Rattle.verdict.proofs.first_violation.Tie as tie
 
 abbrev Inv-loop : tie.InvT-loop
-Inv-loop ticks events n rows count k antecedent pts np due lead env₀ resume₀ env resume =
+Inv-loop ticks events n rows count k antecedent pts np due heads links env₀ env =
     Fixture (runAt ticks events n) env
-    × (least (length (part events n)) (length (points (rowsOf rows antecedent))) (λ ys. behind resume (map (by env) (points (rowsOf rows antecedent))) ys && is-violating (runAt ticks events n) (sheetAt rows count k) ys)
+    × (least (length (part events n)) (length (points (rowsOf rows antecedent))) (λ ys. no-larger (map (by env) (points (rowsOf rows antecedent))) ys && is-violating (runAt ticks events n) (sheetAt rows count k) ys)
     ≡ check (runAt ticks events n) (sheetAt rows count k))
-    × (resume ≡ true → All (λ (x : ℕ). (1 ≤ x) × (x ≤ length (part events n))) (map (by env) (points (rowsOf rows antecedent))))
+    × All (λ (x : ℕ). x < length (part events n) + 2) (map (by env) (points (rowsOf rows antecedent)))
 
 abbrev μ-loop : tie.MeasureT-loop
-μ-loop ticks events n rows count k antecedent pts np due lead env₀ resume₀ env resume = still (length (part events n)) (length (points (rowsOf rows antecedent))) resume (map (by env) (points (rowsOf rows antecedent)))
-
-add-env : tie.Need-add-env Inv-loop μ-loop
-add-env c = search needs
-
-array-write-env : tie.Need-array-write-env Inv-loop μ-loop
-array-write-env c = search needs
-
-slice-aggregate-ready : tie.Need-slice-aggregate-ready Inv-loop μ-loop
-slice-aggregate-ready c = search needs
+μ-loop ticks events n rows count k antecedent pts np due heads links env₀ env = still (length (part events n)) (length (points (rowsOf rows antecedent))) (map (by env) (points (rowsOf rows antecedent)))
 
 ready-requires : tie.Need-ready-requires Inv-loop μ-loop
-ready-requires c κs = let s = c .before .before .before .before .before .before .before in (s .pre .0, s .pre .2 .few)
-
-unviolated-requires : tie.Need-unviolated-requires Inv-loop μ-loop
-unviolated-requires c κs = search needs
+ready-requires c κs = let s = c .before .before .before .before .before .before .before .before in (s .pre .0, s .pre .2 .few, s .pre .3, omega arith)
 
 returns : tie.Need-returns Inv-loop μ-loop
 returns c =
     let y = c .before .before in
-    let s = y .before .before .before .before .before .before .before .before in
+    let s = y .before .before .before .before .before .before .before .before .before in
     let a = s .args in
     c .unviolated .ensures ∙ holds (a .ticks .now) (a .events .now) (a .n) (s .pre .0) (a .rows .now) (a .count) (a .k) (s .pre .1) (a .antecedent) (a .pts .now) (a .np) (a .due .now) (s .pre .2) (unready (a .ticks .now) (a .events .now) (a .n) (s .pre .0) (a .rows .now) (a .count) (a .k) (s .pre .1) (a .antecedent) (a .pts .now) (a .np) (a .due .now) (s .pre .2) (sym (y .ready .ensures) ∙ not-true _ (c .before .if1 .taken)))
 
 loop-holds : tie.Need-loop-holds Inv-loop μ-loop
 loop-holds c =
-    let y = c .before in
-    let s = y .before .before .before .before .before .before .before .before in
+    let s = c .before .before .before .before .before .before .before .before .before .before in
     let a = s .args in
-    (fixture (a .ticks .now) (a .events .now) (a .n) (s .pre .0) (a .rows .now) (a .count) (a .k) (s .pre .1) (a .antecedent) (a .pts .now) (a .np) (a .due .now) (s .pre .2), begin (a .ticks .now) (a .events .now) (a .n) (s .pre .0) (a .rows .now) (a .count) (a .k) (s .pre .1) (a .antecedent) (a .pts .now) (a .np) (a .due .now) (s .pre .2) (map (by (blank (a .n + 1))) (points (rowsOf (a .rows .now) (a .antecedent)))), not-resumed)
-
-slice-aggregate-next : tie.Need-slice-aggregate-next Inv-loop μ-loop
-slice-aggregate-next c = search needs
+    (fixture (a .ticks .now) (a .events .now) (a .n) (s .pre .0) (a .rows .now) (a .count) (a .k) (s .pre .1) (a .antecedent) (a .pts .now) (a .np) (a .due .now) (s .pre .2), begin (a .ticks .now) (a .events .now) (a .n) (s .pre .0) (a .rows .now) (a .count) (a .k) (s .pre .1) (a .antecedent) (a .pts .now) (a .np) (a .due .now) (s .pre .2), begin-below (a .ticks .now) (a .events .now) (a .n) (s .pre .0) (a .rows .now) (a .count) (a .k) (s .pre .1) (a .antecedent) (a .pts .now) (a .np) (a .due .now) (s .pre .2))
 
 next-requires : tie.Need-next-requires Inv-loop μ-loop
 next-requires c κs =
     let l = c .before in
-    let s = l .before .before .before .before .before .before .before .before .before .before in
+    let s = l .before .before .before .before .before .before .before .before .before .before .before in
     let a = s .args in
     let re = sym (l .before .before .ready .ensures) ∙ not-false _ (l .before .if1 .left) in
-    (s .pre .0, (_, prepared (a .ticks .now) (a .events .now) (a .n) (s .pre .0) (a .rows .now) (a .count) (a .k) (s .pre .1) (a .antecedent) (a .pts .now) (a .np) (a .due .now) (s .pre .2) re), l .loop .inv .0)
-
-unviolated-requires-2 : tie.Need-unviolated-requires-2 Inv-loop μ-loop
-unviolated-requires-2 c κs = search needs
+    (s .pre .0, s .pre .3, (_, prepared (a .ticks .now) (a .events .now) (a .n) (s .pre .0) (a .rows .now) (a .count) (a .k) (s .pre .1) (a .antecedent) (a .pts .now) (a .np) (a .due .now) (s .pre .2) re), l .loop .inv .0)
 
 returns-2 : tie.Need-returns-2 Inv-loop μ-loop
 returns-2 c =
     let l = c .before .before .before .before .before in
-    let s = l .before .before .before .before .before .before .before .before .before .before in
+    let s = l .before .before .before .before .before .before .before .before .before .before .before in
     let a = s .args in
     let re = sym (l .before .before .ready .ensures) ∙ not-false _ (l .before .if1 .left) in
     let x = c .before .before .before .next in
-    c .unviolated2 .ensures ∙ loop-none (a .ticks .now) (a .events .now) (a .n) (s .pre .0) (a .rows .now) (a .count) (a .k) (s .pre .1) (a .antecedent) (a .pts .now) (a .np) (a .due .now) (s .pre .2) re (l .loop .env) (l .loop .inv .0) (l .loop .resume) (l .loop .inv .1) (x .result) (x .last .1 .1 .1 .1 .1 .1 .1 .1 .0) (x .ensures .0) (x .ensures .1) (not-true _ (c .before .if2 .taken))
+    c .unviolated2 .ensures ∙ loop-none (a .ticks .now) (a .events .now) (a .n) (s .pre .0) (a .rows .now) (a .count) (a .k) (s .pre .1) (a .antecedent) (a .pts .now) (a .np) (a .due .now) (s .pre .2) re (l .loop .env) (l .loop .inv .0) (l .loop .inv .1) (x .result) (x .last .1 .1 .1 .1 .1 .1 .1 .1 .1 .0) (x .ensures .0) (x .ensures .1) (not-true _ (c .before .if2 .taken))
 
 at-fault-requires : tie.Need-at-fault-requires Inv-loop μ-loop
-at-fault-requires c κs = let s = c .before .before .before .before .before .before .before .before .before .before .before .before .before .before in (s .pre .0, s .pre .1 .few, omega (arith, s .pre .1 .consequents, s .pre .1 .read .count))
-
-slice-aggregate-copy-out : tie.Need-slice-aggregate-copy-out Inv-loop μ-loop
-slice-aggregate-copy-out c = search needs
-
-slice-aggregate-copy-out-2 : tie.Need-slice-aggregate-copy-out-2 Inv-loop μ-loop
-slice-aggregate-copy-out-2 c = search needs
+at-fault-requires c κs = let s = c .before .before .before .before .before .before .before .before .before .before .before .before .before .before .before in (s .pre .0, s .pre .1 .few, omega (arith, s .pre .1 .consequents, s .pre .1 .read .count))
 
 copy-out-requires : tie.Need-copy-out-requires Inv-loop μ-loop
-copy-out-requires c κs = let s = c .before .before .before .before .before .before .before .before .before .before .before .before .before .before .before .before .before .before in (omega (arith, s .pre .2 .number, s .pre .2 .pattern .few), s .pre .2 .roomy, omega (arith, s .pre .2 .number, ap (λ z. length (points z)) (s .pre .2 .antecedent-rows), s .pre .1 .read .few))
+copy-out-requires c κs = let s = c .before .before .before .before .before .before .before .before .before .before .before .before .before .before .before .before .before .before .before in (omega (arith, s .pre .2 .number, s .pre .2 .pattern .few), s .pre .2 .roomy, omega (arith, s .pre .2 .number, ap (λ z. length (points z)) (s .pre .2 .antecedent-rows), s .pre .1 .read .few))
 
 returns-3 : tie.Need-returns-3 Inv-loop μ-loop
 returns-3 c =
     let l = c .before .before .before .before .before .before .before .before .before .before .before in
-    let s = l .before .before .before .before .before .before .before .before .before .before in
+    let s = l .before .before .before .before .before .before .before .before .before .before .before in
     let a = s .args in
     let re = sym (l .before .before .ready .ensures) ∙ not-false _ (l .before .if1 .left) in
     let x = c .before .before .before .before .before .before .before .before .before .next in
     let f = c .before .before .before .before .before .before .at-fault in
-    loop-hit (a .ticks .now) (a .events .now) (a .n) (s .pre .0) (a .rows .now) (a .count) (a .k) (s .pre .1) (a .antecedent) (a .pts .now) (a .np) (a .due .now) (s .pre .2) re (l .loop .env) (l .loop .inv .0) (l .loop .resume) (l .loop .inv .1) (x .result) (x .last .1 .1 .1 .1 .1 .1 .1 .1 .0) (x .ensures .0) (x .ensures .1) (not-false _ (c .before .before .before .before .before .before .before .if2 .left)) (f .result) (f .ensures) (c .before .before .before .before .before .if3 .taken) (c .before .before .copy-out .last .1 .1 .1 .0) (c .before .before .copy-out .ensures)
+    loop-hit (a .ticks .now) (a .events .now) (a .n) (s .pre .0) (a .rows .now) (a .count) (a .k) (s .pre .1) (a .antecedent) (a .pts .now) (a .np) (a .due .now) (s .pre .2) re (l .loop .env) (l .loop .inv .0) (l .loop .inv .1) (x .result) (x .last .1 .1 .1 .1 .1 .1 .1 .1 .1 .0) (x .ensures .0) (x .ensures .1) (not-false _ (c .before .before .before .before .before .before .before .if2 .left)) (f .result) (f .ensures) (c .before .before .before .before .before .if3 .taken) (c .before .before .copy-out .last .1 .1 .1 .0) (c .before .before .copy-out .ensures)
+
+pass-requires : tie.Need-pass-requires Inv-loop μ-loop
+pass-requires c κs =
+    let l = c .before .before .before .before .before .before .before in
+    let s = l .before .before .before .before .before .before .before .before .before .before .before in
+    let a = s .args in
+    let re = sym (l .before .before .ready .ensures) ∙ not-false _ (l .before .if1 .left) in
+    let x = c .before .before .before .before .before .next in
+    (omega (arith, s .pre .2 .number, s .pre .2 .pattern .few), s .pre .2 .roomy, loop-keeps (a .ticks .now) (a .events .now) (a .n) (s .pre .0) (a .rows .now) (a .count) (a .k) (s .pre .1) (a .antecedent) (a .pts .now) (a .np) (a .due .now) (s .pre .2) re (l .loop .env) (l .loop .inv .0) (l .loop .inv .1) (x .result) (x .last .1 .1 .1 .1 .1 .1 .1 .1 .1 .0) (x .ensures .0) (x .ensures .1) .size, loop-room (a .ticks .now) (a .events .now) (a .n) (s .pre .0) (a .rows .now) (a .count) (a .k) (s .pre .1) (a .antecedent) (a .pts .now) (a .np) (a .due .now) (s .pre .2) re (l .loop .env) (l .loop .inv .0) (l .loop .inv .1) (x .result) (x .last .1 .1 .1 .1 .1 .1 .1 .1 .1 .0) (x .ensures .0) (x .ensures .1) (not-false _ (c .before .before .before .if2 .left)))
+
+returns-4 : tie.Need-returns-4 Inv-loop μ-loop
+returns-4 c =
+    let l = c .before .before .before .before .before .before .before .before .before .before .before in
+    let s = l .before .before .before .before .before .before .before .before .before .before .before in
+    let a = s .args in
+    let re = sym (l .before .before .ready .ensures) ∙ not-false _ (l .before .if1 .left) in
+    let x = c .before .before .before .before .before .before .before .before .before .next in
+    let f = c .before .before .before .before .before .before .at-fault in
+    let g = c .before .before .before .pass in
+    c .unviolated3 .ensures ∙ loop-last (a .ticks .now) (a .events .now) (a .n) (s .pre .0) (a .rows .now) (a .count) (a .k) (s .pre .1) (a .antecedent) (a .pts .now) (a .np) (a .due .now) (s .pre .2) re (l .loop .env) (l .loop .inv .0) (l .loop .inv .1) (x .result) (x .last .1 .1 .1 .1 .1 .1 .1 .1 .1 .0) (x .ensures .0) (x .ensures .1) (not-false _ (c .before .before .before .before .before .before .before .if2 .left)) (f .result) (f .ensures) (c .before .before .before .before .before .if3 .left) (no-points (a .np) (g .result) (g .ensures .0) (not-true _ (c .before .if4 .taken)))
 
 loop-less : tie.Need-loop-less Inv-loop μ-loop
 loop-less c =
-    let l = c .before .before .before .before .before .before in
-    let s = l .before .before .before .before .before .before .before .before .before .before in
+    let l = c .before .before .before .before .before .before .before .before .before .before in
+    let s = l .before .before .before .before .before .before .before .before .before .before .before in
     let a = s .args in
     let re = sym (l .before .before .ready .ensures) ∙ not-false _ (l .before .if1 .left) in
-    let x = c .before .before .before .before .next in
-    loop-falls (a .ticks .now) (a .events .now) (a .n) (s .pre .0) (a .rows .now) (a .count) (a .k) (s .pre .1) (a .antecedent) (a .pts .now) (a .np) (a .due .now) (s .pre .2) re (l .loop .env) (l .loop .inv .0) (l .loop .resume) (l .loop .inv .1) (x .result) (x .last .1 .1 .1 .1 .1 .1 .1 .1 .0) (x .ensures .0) (x .ensures .1) (not-false _ (c .before .before .if2 .left)) (l .loop .inv .2)
+    let x = c .before .before .before .before .before .before .before .before .next in
+    let f = c .before .before .before .before .before .at-fault in
+    let g = c .before .before .pass in
+    let nz = some-points (a .np) (g .result) (g .ensures .0) (not-false _ (c .if4 .left)) in
+    loop-falls (a .ticks .now) (a .events .now) (a .n) (s .pre .0) (a .rows .now) (a .count) (a .k) (s .pre .1) (a .antecedent) (a .pts .now) (a .np) (a .due .now) (s .pre .2) re (l .loop .env) (l .loop .inv .0) (l .loop .inv .1) (x .result) (x .last .1 .1 .1 .1 .1 .1 .1 .1 .1 .0) (x .ensures .0) (x .ensures .1) (not-false _ (c .before .before .before .before .before .before .if2 .left)) (f .result) (f .ensures) nz (g .last .1 .1 .0) (g .ensures .1 nz) (l .loop .inv .2)
 
 loop-again : tie.Need-loop-again Inv-loop μ-loop
 loop-again c =
-    let l = c .before .before .before .before .before .before in
-    let s = l .before .before .before .before .before .before .before .before .before .before in
+    let l = c .before .before .before .before .before .before .before .before .before .before in
+    let s = l .before .before .before .before .before .before .before .before .before .before .before in
     let a = s .args in
     let re = sym (l .before .before .ready .ensures) ∙ not-false _ (l .before .if1 .left) in
-    let x = c .before .before .before .before .next in
-    let f = c .before .at-fault in
-    (loop-keeps (a .ticks .now) (a .events .now) (a .n) (s .pre .0) (a .rows .now) (a .count) (a .k) (s .pre .1) (a .antecedent) (a .pts .now) (a .np) (a .due .now) (s .pre .2) re (l .loop .env) (l .loop .inv .0) (l .loop .resume) (l .loop .inv .1) (x .result) (x .last .1 .1 .1 .1 .1 .1 .1 .1 .0) (x .ensures .0) (x .ensures .1), loop-miss (a .ticks .now) (a .events .now) (a .n) (s .pre .0) (a .rows .now) (a .count) (a .k) (s .pre .1) (a .antecedent) (a .pts .now) (a .np) (a .due .now) (s .pre .2) re (l .loop .env) (l .loop .inv .0) (l .loop .resume) (l .loop .inv .1) (x .result) (x .last .1 .1 .1 .1 .1 .1 .1 .1 .0) (x .ensures .0) (x .ensures .1) (not-false _ (c .before .before .if2 .left)) (f .result) (f .ensures) (c .if3 .left), λ q. loop-on (a .ticks .now) (a .events .now) (a .n) (s .pre .0) (a .rows .now) (a .count) (a .k) (s .pre .1) (a .antecedent) (a .pts .now) (a .np) (a .due .now) (s .pre .2) re (l .loop .env) (l .loop .inv .0) (l .loop .resume) (l .loop .inv .1) (x .result) (x .last .1 .1 .1 .1 .1 .1 .1 .1 .0) (x .ensures .0) (x .ensures .1) (not-false _ (c .before .before .if2 .left)))
+    let x = c .before .before .before .before .before .before .before .before .next in
+    let f = c .before .before .before .before .before .at-fault in
+    let g = c .before .before .pass in
+    let nz = some-points (a .np) (g .result) (g .ensures .0) (not-false _ (c .if4 .left)) in (
+      pass-keeps (a .ticks .now) (a .events .now) (a .n) (s .pre .0) (a .rows .now) (a .count) (a .k) (s .pre .1) (a .antecedent) (a .pts .now) (a .np) (a .due .now) (s .pre .2) re (l .loop .env) (l .loop .inv .0) (l .loop .inv .1) (x .result) (x .last .1 .1 .1 .1 .1 .1 .1 .1 .1 .0) (x .ensures .0) (x .ensures .1) (not-false _ (c .before .before .before .before .before .before .if2 .left)) (f .result) (f .ensures) nz (g .last .1 .1 .0) (g .ensures .1 nz),
+      loop-miss (a .ticks .now) (a .events .now) (a .n) (s .pre .0) (a .rows .now) (a .count) (a .k) (s .pre .1) (a .antecedent) (a .pts .now) (a .np) (a .due .now) (s .pre .2) re (l .loop .env) (l .loop .inv .0) (l .loop .inv .1) (x .result) (x .last .1 .1 .1 .1 .1 .1 .1 .1 .1 .0) (x .ensures .0) (x .ensures .1) (not-false _ (c .before .before .before .before .before .before .if2 .left)) (f .result) (f .ensures) nz (g .last .1 .1 .0) (g .ensures .1 nz) (c .before .before .before .before .if3 .left),
+      pass-below (a .ticks .now) (a .events .now) (a .n) (s .pre .0) (a .rows .now) (a .count) (a .k) (s .pre .1) (a .antecedent) (a .pts .now) (a .np) (a .due .now) (s .pre .2) re (l .loop .env) (l .loop .inv .0) (l .loop .inv .1) (x .result) (x .last .1 .1 .1 .1 .1 .1 .1 .1 .1 .0) (x .ensures .0) (x .ensures .1) (not-false _ (c .before .before .before .before .before .before .if2 .left)) (f .result) (f .ensures) nz (g .last .1 .1 .0) (g .ensures .1 nz),
+    )
 
 pub first-violation-spec : {M : Type 1} → statement M
 first-violation-spec =
@@ -130,21 +133,25 @@ first-violation-spec =
     (tie.spec
     Inv-loop
     μ-loop
-    add-env
-    array-write-env
-    slice-aggregate-ready
+    (λ c. search needs)
+    (λ c. search needs)
+    (λ c. search needs)
     ready-requires
-    unviolated-requires
+    (λ c κs. search needs)
     returns
     loop-holds
-    slice-aggregate-next
+    (λ c. search needs)
     next-requires
-    unviolated-requires-2
+    (λ c κs. search needs)
     returns-2
     at-fault-requires
-    slice-aggregate-copy-out
-    slice-aggregate-copy-out-2
+    (λ c. search needs)
+    (λ c. search needs)
     copy-out-requires
     returns-3
+    (λ c. search needs)
+    pass-requires
+    (λ c κs. search needs)
+    returns-4
     loop-less
     loop-again)
