@@ -76,8 +76,16 @@ impl Log {
     /// The first position after one with an event of the set.
     #[inline]
     pub fn next(&self, after: u32, set: u32) -> Option<u32> {
+        self.next_up_to(after, self.n, set)
+    }
+
+    #[inline]
+    pub fn next_up_to(&self, after: u32, last: u32, set: u32) -> Option<u32> {
+        if after >= last {
+            return None;
+        }
         let from = after as usize + 1;
-        let offset = self.events[from..=self.n as usize].iter().position(|event| event & set != 0)?;
+        let offset = self.events[from..=last as usize].iter().position(|event| event & set != 0)?;
         Some((from + offset) as u32)
     }
 
