@@ -111,12 +111,12 @@ module _ (rows : List ℕ) (count k : ℕ) (S : SheetHeld rows count k) where
   rows-pattern a e = subst Pattern (sym (ap (rowsOf rows) e ∙ antecedent-rows)) antecedent-pattern
 
   -- what is prepared
-  pub antecedent-prepared : (ticks events : List ℕ) (n : ℕ) → Held ticks events n → (a : ℕ) → a ≡ length (whole-sheet .antecedent) → (pts : List ℕ) (np : ℕ) (due : List ℕ)
-      → np ≡ length (points (rowsOf rows a)) → take np pts ≡ points (rowsOf rows a) → ((j : ℕ) → j < a → Latest pts np (getD due j 0) (rowAt rows j)) → length pts ≡ 58
-      → AntecedentPrepared (runAt ticks events n) n rows count k a pts np due
-  antecedent-prepared ticks events n H a e pts np due en ep ed l = record {
+  pub antecedent-prepared : (ticks events : List ℕ) (n : ℕ) → Held ticks events n → (a : ℕ) → a ≡ length (whole-sheet .antecedent) → (pts : List ℕ) (np : ℕ) (slots : List ℕ)
+      → np ≡ length (points (rowsOf rows a)) → take np pts ≡ points (rowsOf rows a) → ((j : ℕ) → j < a → Latest pts np (getD slots j 0) (rowAt rows j)) → length pts ≡ 58
+      → AntecedentPrepared (runAt ticks events n) n rows count k a pts np slots
+  antecedent-prepared ticks events n H a e pts np slots en ep ed l = record {
     antecedent-rows = ap (rowsOf rows) e ∙ antecedent-rows;
-    plan = planned ticks events n H rows a (rows-pattern a e) pts due np en ep ed;
+    plan = planned ticks events n H rows a (rows-pattern a e) pts slots np en ep ed;
     pattern = rows-pattern a e;
     number = en;
     front = ep;
@@ -164,8 +164,8 @@ blank-zero n m h l = getD-set-other (replicate 100 0) 99 m (n + 1) 0 h ∙ getD-
 
 -- The loop
 
-module _ (ticks events : List ℕ) (n : ℕ) (H : Held ticks events n) (rows : List ℕ) (count k : ℕ) (S : SheetHeld rows count k) (antecedent : ℕ) (pts : List ℕ) (np : ℕ) (due : List ℕ)
-    (P : AntecedentPrepared (runAt ticks events n) n rows count k antecedent pts np due) where
+module _ (ticks events : List ℕ) (n : ℕ) (H : Held ticks events n) (rows : List ℕ) (count k : ℕ) (S : SheetHeld rows count k) (antecedent : ℕ) (pts : List ℕ) (np : ℕ) (slots : List ℕ)
+    (P : AntecedentPrepared (runAt ticks events n) n rows count k antecedent pts np slots) where
   abbrev pub run : Run
   run = runAt ticks events n
 
@@ -185,7 +185,7 @@ module _ (ticks events : List ℕ) (n : ℕ) (H : Held ticks events n) (rows : L
   pub fixture : Fixture run (blank-env (n + 1))
   fixture = record { start = refl; close = rw (part-length events n (H .lines .room), add-one n); size = refl }
 
-  pub prepared : ready run rows due antecedent (blank-env (n + 1)) 0 ≡ true → Prepared run n rows due antecedent pts np (blank-env (n + 1))
+  pub prepared : ready run rows slots antecedent (blank-env (n + 1)) 0 ≡ true → Prepared run n rows slots antecedent pts np (blank-env (n + 1))
   prepared e = record { plan = P .plan; pattern = P .pattern; number = P .number; front = P .front; roomy = P .roomy; few = P .few; ready = e; fixed = fixture }
 
   all-at-points : (X : ℕ → Type 0) → ((m : ℕ) → Ordinary m → m < 100 → X (getD (blank-env (n + 1)) m 0)) → All X (map (by (blank-env (n + 1))) (points rs))
@@ -200,12 +200,12 @@ module _ (ticks events : List ℕ) (n : ℕ) (H : Held ticks events n) (rows : L
   holds e = rw e
 
   -- a row without points is not met: there is no matching
-  pub unready : ready run rows due antecedent (blank-env (n + 1)) 0 ≡ false → check run sheet ≡ nothing
+  pub unready : ready run rows slots antecedent (blank-env (n + 1)) 0 ≡ false → check run sheet ≡ nothing
   unfolding check
   unready e = least-none (run .lines) (length (points (sheet .antecedent))) (is-violating run sheet) (λ xs t. no-match xs (only xs t))
     where
       none : smallest-matching run rs ≡ nothing
-      none = search-none (planOf run n rows due antecedent pts) rs (P .plan) (all-map (λ m h. h .0) (points rs) (P .pattern .plain)) (P .pattern .once) (blank-env (n + 1)) (fixture .start) (fixture .close)
+      none = search-none (planOf run n rows slots antecedent pts) rs (P .plan) (all-map (λ m h. h .0) (points rs) (P .pattern .plain)) (P .pattern .once) (blank-env (n + 1)) (fixture .start) (fixture .close)
           (subst (λ (t : Bool). T (not t)) (sym e) tt)
 
       no-match : (xs : List ℕ) → T (matching run rs xs) → ⊥
@@ -279,7 +279,7 @@ module _ (ticks events : List ℕ) (n : ℕ) (H : Held ticks events n) (rows : L
         ∙ ap (verdictOf run sheet) (sym ec)
 
   -- A turn of the loop: E is the array before, r and E' what going on to the next matching gives.
-  module _ (re : ready run rows due antecedent (blank-env (n + 1)) 0 ≡ true) (E : List ℕ) (F : Fixture run E)
+  module _ (re : ready run rows slots antecedent (blank-env (n + 1)) 0 ≡ true) (E : List ℕ) (F : Fixture run E)
       (inv : least (run .lines) (length (points rs)) (λ ys. no-larger (map (by E) (points rs)) ys && is-violating run sheet ys) ≡ check run sheet)
       (r : Bool) (E' : List ℕ) (er : r ≡ isFound (next-matching run rs (map (by E) (points rs)))) (ee : E' ≡ after E (points rs) (next-matching run rs (map (by E) (points rs)))) where
     abbrev up : Answer
@@ -289,31 +289,31 @@ module _ (ticks events : List ℕ) (n : ℕ) (H : Held ticks events n) (rows : L
     moved X h = subst X (sym ee) h
 
     pub loop-none : r ≡ false → blank 0 ≡ verdictOf run sheet (check run sheet)
-    loop-none q = holds (sym inv ∙ turn-none run n rows due antecedent pts np (blank-env (n + 1)) (prepared re) (is-violating run sheet) only E F up refl (sym er ∙ q))
+    loop-none q = holds (sym inv ∙ turn-none run n rows slots antecedent pts np (blank-env (n + 1)) (prepared re) (is-violating run sheet) only E F up refl (sym er ∙ q))
 
     pub loop-keeps : Fixture run E'
-    loop-keeps = moved (Fixture run) (turn-keeps run n rows due antecedent pts np (blank-env (n + 1)) (prepared re) (is-violating run sheet) only E F up)
+    loop-keeps = moved (Fixture run) (turn-keeps run n rows slots antecedent pts np (blank-env (n + 1)) (prepared re) (is-violating run sheet) only E F up)
 
     module _ (t : r ≡ true) where
       pub loop-on : All (λ (x : ℕ). (1 ≤ x) × (x ≤ run .lines)) (map (by E') (points rs))
       loop-on = moved (λ z. All (λ (x : ℕ). (1 ≤ x) × (x ≤ run .lines)) (map (by z) (points rs)))
-          (turn-on run n rows due antecedent pts np (blank-env (n + 1)) (prepared re) (is-violating run sheet) only E F up refl (sym er ∙ t))
+          (turn-on run n rows slots antecedent pts np (blank-env (n + 1)) (prepared re) (is-violating run sheet) only E F up refl (sym er ∙ t))
 
       -- room to go past it
       pub loop-room : (i : ℕ) → i < np → (getD pts i 0 < 100) × (getD E' (getD pts i 0) 0 ≤ 4000)
       loop-room i h = (
-        point-small run n rows due antecedent pts np (blank-env (n + 1)) (prepared re) (is-violating run sheet) only i h,
-        omega (arith, point-line run n rows due antecedent pts np (blank-env (n + 1)) (prepared re) (is-violating run sheet) only E' loop-on i h, part-length events n (H .lines .room), H .lines .few),
+        point-small run n rows slots antecedent pts np (blank-env (n + 1)) (prepared re) (is-violating run sheet) only i h,
+        omega (arith, point-line run n rows slots antecedent pts np (blank-env (n + 1)) (prepared re) (is-violating run sheet) only E' loop-on i h, part-length events n (H .lines .room), H .lines .few),
       )
 
       match-there : T (matching run rs (map (by E') (points rs)))
-      match-there = moved (λ z. T (matching run rs (map (by z) (points rs)))) (turn-matches run n rows due antecedent pts np (blank-env (n + 1)) (prepared re) (is-violating run sheet) only E F up refl (sym er ∙ t))
+      match-there = moved (λ z. T (matching run rs (map (by z) (points rs)))) (turn-matches run n rows slots antecedent pts np (blank-env (n + 1)) (prepared re) (is-violating run sheet) only E F up refl (sym er ∙ t))
 
       module _ (f : Faults) (ef : f ≡ faultsIn run (tagsOf rows count) E' 0 k (replicate 6 0)) where
         pub loop-hit : f .all ≡ true → (at : List ℕ) → at ≡ map (by E') (take np pts) ++ drop np (replicate 4 0)
             → made np k at (f .rows) ≡ verdictOf run sheet (check run sheet)
         loop-hit e at ea = answered E' loop-keeps match-there f ef e at ea
-            (sym inv ∙ turn-hit run n rows due antecedent pts np (blank-env (n + 1)) (prepared re) (is-violating run sheet) only E F up refl (sym er ∙ t)
+            (sym inv ∙ turn-hit run n rows slots antecedent pts np (blank-env (n + 1)) (prepared re) (is-violating run sheet) only E F up refl (sym er ∙ t)
             (subst (λ (z : List ℕ). T (is-violating run sheet (map (by z) (points rs)))) ee (hit E' loop-keeps match-there f ef e))
             ∙ ap (λ (z : List ℕ). found (map (by z) (points rs))) (sym ee))
 
@@ -322,7 +322,7 @@ module _ (ticks events : List ℕ) (n : ℕ) (H : Held ticks events n) (rows : L
 
         -- without points there is no other
         pub loop-last : f .all ≡ false → np ≡ 0 → blank 0 ≡ verdictOf run sheet (check run sheet)
-        loop-last e z = holds (sym inv ∙ turn-last run n rows due antecedent pts np (blank-env (n + 1)) (prepared re) (is-violating run sheet) only E F up refl (sym er ∙ t) (missed e) (sym (P .number) ∙ z))
+        loop-last e z = holds (sym inv ∙ turn-last run n rows slots antecedent pts np (blank-env (n + 1)) (prepared re) (is-violating run sheet) only E F up refl (sym er ∙ t) (missed e) (sym (P .number) ∙ z))
 
         -- gone past it
         module _ (nz : np ≡ 0 → ⊥) (E″ : List ℕ) (ep : E″ ≡ set E' (getD pts (np - 1) 0) (getD E' (getD pts (np - 1) 0) 0 + 1)) where
@@ -330,16 +330,16 @@ module _ (ticks events : List ℕ) (n : ℕ) (H : Held ticks events n) (rows : L
           some z = nz (P .number ∙ z)
 
           passed : map (by E″) (points rs) ≡ past (map (by E') (points rs))
-          passed = ap (λ (z : List ℕ). map (by z) (points rs)) ep ∙ passed-is run n rows due antecedent pts np (blank-env (n + 1)) (prepared re) (is-violating run sheet) only some E' loop-keeps
+          passed = ap (λ (z : List ℕ). map (by z) (points rs)) ep ∙ passed-is run n rows slots antecedent pts np (blank-env (n + 1)) (prepared re) (is-violating run sheet) only some E' loop-keeps
 
           pub loop-miss : f .all ≡ false → least (run .lines) (length (points rs)) (λ ys. no-larger (map (by E″) (points rs)) ys && is-violating run sheet ys) ≡ check run sheet
           loop-miss e =
               ap (λ (z : List ℕ). least (run .lines) (length (points rs)) (λ ys. no-larger z ys && is-violating run sheet ys)) (passed ∙ ap (λ (z : List ℕ). past (map (by z) (points rs))) ee)
-              ∙ sym (turn-miss run n rows due antecedent pts np (blank-env (n + 1)) (prepared re) (is-violating run sheet) only E F up refl (sym er ∙ t) (missed e) some)
+              ∙ sym (turn-miss run n rows slots antecedent pts np (blank-env (n + 1)) (prepared re) (is-violating run sheet) only E F up refl (sym er ∙ t) (missed e) some)
               ∙ inv
 
           pub pass-keeps : Fixture run E″
-          pass-keeps = subst (Fixture run) (sym ep) (passed-keeps run n rows due antecedent pts np (blank-env (n + 1)) (prepared re) (is-violating run sheet) only some E' loop-keeps)
+          pass-keeps = subst (Fixture run) (sym ep) (passed-keeps run n rows slots antecedent pts np (blank-env (n + 1)) (prepared re) (is-violating run sheet) only some E' loop-keeps)
 
           pub pass-below : All (λ (x : ℕ). x < run .lines + 2) (map (by E″) (points rs))
           pass-below = subst (All (λ (x : ℕ). x < run .lines + 2)) (sym passed)
@@ -347,4 +347,4 @@ module _ (ticks events : List ℕ) (n : ℕ) (H : Held ticks events n) (rows : L
 
           pub loop-falls : All (λ (x : ℕ). x < run .lines + 2) (map (by E) (points rs)) → still (run .lines) (length (points rs)) (map (by E″) (points rs)) < still (run .lines) (length (points rs)) (map (by E) (points rs))
           loop-falls h = subst (λ (z : List ℕ). still (run .lines) (length (points rs)) z < still (run .lines) (length (points rs)) (map (by E) (points rs))) (sym (passed ∙ ap (λ (z : List ℕ). past (map (by z) (points rs))) ee))
-              (turn-falls run n rows due antecedent pts np (blank-env (n + 1)) (prepared re) (is-violating run sheet) only E F up refl (sym er ∙ t) h some)
+              (turn-falls run n rows slots antecedent pts np (blank-env (n + 1)) (prepared re) (is-violating run sheet) only E F up refl (sym er ∙ t) h some)

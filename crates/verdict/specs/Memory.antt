@@ -33,9 +33,9 @@ leading [] = 0
 leading (t ∷ ts) = cond (eqb (t .section) 0) (suc (leading ts)) 0
 
 -- The antecedent's rows, their points in order, and when each row is due.
-pub record AntecedentPrepared (run : Run) (n : ℕ) (rows : List ℕ) (count k antecedent : ℕ) (pts : List ℕ) (np : ℕ) (due : List ℕ) : Type 0 where
+pub record AntecedentPrepared (run : Run) (n : ℕ) (rows : List ℕ) (count k antecedent : ℕ) (pts : List ℕ) (np : ℕ) (slots : List ℕ) : Type 0 where
   pub antecedent-rows : rowsOf rows antecedent ≡ sheetAt rows count k .antecedent
-  pub plan : Planned (planOf run n rows due antecedent pts) (rowsOf rows antecedent)
+  pub plan : Planned (planOf run n rows slots antecedent pts) (rowsOf rows antecedent)
   pub pattern : Pattern (rowsOf rows antecedent)
   pub number : np ≡ length (points (rowsOf rows antecedent))
   pub front : take np pts ≡ points (rowsOf rows antecedent)

@@ -9,6 +9,7 @@ use Rattle.scenario.specs.Search.{smallest-matching}
 use Rattle.runlog.specs.Held.{runAt}
 use Rattle.pattern.specs.Decode.{by, rowsOf}
 use Rattle.search.specs.Matching.{isFound, after}
+use Rattle.search.proofs.Steps.{never}
 use Rattle.search.proofs.Finding.{blank, find-none, find-is, roomy, read-off, filled-none}
 use borrow.Author.Needs.{needs}
 use Rattle.search.proofs.find.Statement.{statement}
@@ -66,7 +67,7 @@ returns-3 c =
 ready-requires : tie.Need-ready-requires
 ready-requires c κs =
     let s = c .before .before .before .before .before .before .before .before .before .before .before .before .before .before .before .before .before in
-    (s .pre .0, s .pre .1, c .before .before .before .before .before .before .before .before .prepare .ensures .1 .1 .1, omega arith)
+    (s .pre .0, s .pre .1, c .before .before .before .before .before .before .before .before .prepare .ensures .1 .1 .1, omega arith, λ q. never q)
 
 pub find-spec : {M : Type 1} → statement M
 find-spec =

@@ -22,14 +22,14 @@ use Rattle.verdict.proofs.first_violation.Statement.{statement}
 use Rattle.verdict.proofs.first_violation.Tie as tie
 
 abbrev Inv-loop : tie.InvT-loop
-Inv-loop ticks events n rows count k antecedent pts np due heads links env₀ env =
+Inv-loop ticks events n rows count k antecedent pts np slots heads links env₀ env =
     Fixture (runAt ticks events n) env
     × (least (length (part events n)) (length (points (rowsOf rows antecedent))) (λ ys. no-larger (map (by env) (points (rowsOf rows antecedent))) ys && is-violating (runAt ticks events n) (sheetAt rows count k) ys)
     ≡ check (runAt ticks events n) (sheetAt rows count k))
     × All (λ (x : ℕ). x < length (part events n) + 2) (map (by env) (points (rowsOf rows antecedent)))
 
 abbrev μ-loop : tie.MeasureT-loop
-μ-loop ticks events n rows count k antecedent pts np due heads links env₀ env = still (length (part events n)) (length (points (rowsOf rows antecedent))) (map (by env) (points (rowsOf rows antecedent)))
+μ-loop ticks events n rows count k antecedent pts np slots heads links env₀ env = still (length (part events n)) (length (points (rowsOf rows antecedent))) (map (by env) (points (rowsOf rows antecedent)))
 
 ready-requires : tie.Need-ready-requires Inv-loop μ-loop
 ready-requires c κs = let s = c .before .before .before .before .before .before .before .before in (s .pre .0, s .pre .2 .few, s .pre .3, omega arith)
@@ -39,13 +39,13 @@ returns c =
     let y = c .before .before in
     let s = y .before .before .before .before .before .before .before .before .before in
     let a = s .args in
-    c .unviolated .ensures ∙ holds (a .ticks .now) (a .events .now) (a .n) (s .pre .0) (a .rows .now) (a .count) (a .k) (s .pre .1) (a .antecedent) (a .pts .now) (a .np) (a .due .now) (s .pre .2) (unready (a .ticks .now) (a .events .now) (a .n) (s .pre .0) (a .rows .now) (a .count) (a .k) (s .pre .1) (a .antecedent) (a .pts .now) (a .np) (a .due .now) (s .pre .2) (sym (y .ready .ensures) ∙ not-true _ (c .before .if1 .taken)))
+    c .unviolated .ensures ∙ holds (a .ticks .now) (a .events .now) (a .n) (s .pre .0) (a .rows .now) (a .count) (a .k) (s .pre .1) (a .antecedent) (a .pts .now) (a .np) (a .slots .now) (s .pre .2) (unready (a .ticks .now) (a .events .now) (a .n) (s .pre .0) (a .rows .now) (a .count) (a .k) (s .pre .1) (a .antecedent) (a .pts .now) (a .np) (a .slots .now) (s .pre .2) (sym (y .ready .ensures) ∙ not-true _ (c .before .if1 .taken)))
 
 loop-holds : tie.Need-loop-holds Inv-loop μ-loop
 loop-holds c =
     let s = c .before .before .before .before .before .before .before .before .before .before in
     let a = s .args in
-    (fixture (a .ticks .now) (a .events .now) (a .n) (s .pre .0) (a .rows .now) (a .count) (a .k) (s .pre .1) (a .antecedent) (a .pts .now) (a .np) (a .due .now) (s .pre .2), begin (a .ticks .now) (a .events .now) (a .n) (s .pre .0) (a .rows .now) (a .count) (a .k) (s .pre .1) (a .antecedent) (a .pts .now) (a .np) (a .due .now) (s .pre .2), begin-below (a .ticks .now) (a .events .now) (a .n) (s .pre .0) (a .rows .now) (a .count) (a .k) (s .pre .1) (a .antecedent) (a .pts .now) (a .np) (a .due .now) (s .pre .2))
+    (fixture (a .ticks .now) (a .events .now) (a .n) (s .pre .0) (a .rows .now) (a .count) (a .k) (s .pre .1) (a .antecedent) (a .pts .now) (a .np) (a .slots .now) (s .pre .2), begin (a .ticks .now) (a .events .now) (a .n) (s .pre .0) (a .rows .now) (a .count) (a .k) (s .pre .1) (a .antecedent) (a .pts .now) (a .np) (a .slots .now) (s .pre .2), begin-below (a .ticks .now) (a .events .now) (a .n) (s .pre .0) (a .rows .now) (a .count) (a .k) (s .pre .1) (a .antecedent) (a .pts .now) (a .np) (a .slots .now) (s .pre .2))
 
 next-requires : tie.Need-next-requires Inv-loop μ-loop
 next-requires c κs =
@@ -53,7 +53,7 @@ next-requires c κs =
     let s = l .before .before .before .before .before .before .before .before .before .before .before in
     let a = s .args in
     let re = sym (l .before .before .ready .ensures) ∙ not-false _ (l .before .if1 .left) in
-    (s .pre .0, s .pre .3, (_, prepared (a .ticks .now) (a .events .now) (a .n) (s .pre .0) (a .rows .now) (a .count) (a .k) (s .pre .1) (a .antecedent) (a .pts .now) (a .np) (a .due .now) (s .pre .2) re), l .loop .inv .0)
+    (s .pre .0, s .pre .3, (_, prepared (a .ticks .now) (a .events .now) (a .n) (s .pre .0) (a .rows .now) (a .count) (a .k) (s .pre .1) (a .antecedent) (a .pts .now) (a .np) (a .slots .now) (s .pre .2) re), l .loop .inv .0)
 
 returns-2 : tie.Need-returns-2 Inv-loop μ-loop
 returns-2 c =
@@ -62,7 +62,7 @@ returns-2 c =
     let a = s .args in
     let re = sym (l .before .before .ready .ensures) ∙ not-false _ (l .before .if1 .left) in
     let x = c .before .before .before .next in
-    c .unviolated2 .ensures ∙ loop-none (a .ticks .now) (a .events .now) (a .n) (s .pre .0) (a .rows .now) (a .count) (a .k) (s .pre .1) (a .antecedent) (a .pts .now) (a .np) (a .due .now) (s .pre .2) re (l .loop .env) (l .loop .inv .0) (l .loop .inv .1) (x .result) (x .last .1 .1 .1 .1 .1 .1 .1 .1 .1 .0) (x .ensures .0) (x .ensures .1) (not-true _ (c .before .if2 .taken))
+    c .unviolated2 .ensures ∙ loop-none (a .ticks .now) (a .events .now) (a .n) (s .pre .0) (a .rows .now) (a .count) (a .k) (s .pre .1) (a .antecedent) (a .pts .now) (a .np) (a .slots .now) (s .pre .2) re (l .loop .env) (l .loop .inv .0) (l .loop .inv .1) (x .result) (x .last .1 .1 .1 .1 .1 .1 .1 .1 .1 .0) (x .ensures .0) (x .ensures .1) (not-true _ (c .before .if2 .taken))
 
 at-fault-requires : tie.Need-at-fault-requires Inv-loop μ-loop
 at-fault-requires c κs = let s = c .before .before .before .before .before .before .before .before .before .before .before .before .before .before .before in (s .pre .0, s .pre .1 .few, omega (arith, s .pre .1 .consequents, s .pre .1 .read .count))
@@ -78,7 +78,7 @@ returns-3 c =
     let re = sym (l .before .before .ready .ensures) ∙ not-false _ (l .before .if1 .left) in
     let x = c .before .before .before .before .before .before .before .before .before .next in
     let f = c .before .before .before .before .before .before .at-fault in
-    loop-hit (a .ticks .now) (a .events .now) (a .n) (s .pre .0) (a .rows .now) (a .count) (a .k) (s .pre .1) (a .antecedent) (a .pts .now) (a .np) (a .due .now) (s .pre .2) re (l .loop .env) (l .loop .inv .0) (l .loop .inv .1) (x .result) (x .last .1 .1 .1 .1 .1 .1 .1 .1 .1 .0) (x .ensures .0) (x .ensures .1) (not-false _ (c .before .before .before .before .before .before .before .if2 .left)) (f .result) (f .ensures) (c .before .before .before .before .before .if3 .taken) (c .before .before .copy-out .last .1 .1 .1 .0) (c .before .before .copy-out .ensures)
+    loop-hit (a .ticks .now) (a .events .now) (a .n) (s .pre .0) (a .rows .now) (a .count) (a .k) (s .pre .1) (a .antecedent) (a .pts .now) (a .np) (a .slots .now) (s .pre .2) re (l .loop .env) (l .loop .inv .0) (l .loop .inv .1) (x .result) (x .last .1 .1 .1 .1 .1 .1 .1 .1 .1 .0) (x .ensures .0) (x .ensures .1) (not-false _ (c .before .before .before .before .before .before .before .if2 .left)) (f .result) (f .ensures) (c .before .before .before .before .before .if3 .taken) (c .before .before .copy-out .last .1 .1 .1 .0) (c .before .before .copy-out .ensures)
 
 pass-requires : tie.Need-pass-requires Inv-loop μ-loop
 pass-requires c κs =
@@ -87,7 +87,7 @@ pass-requires c κs =
     let a = s .args in
     let re = sym (l .before .before .ready .ensures) ∙ not-false _ (l .before .if1 .left) in
     let x = c .before .before .before .before .before .next in
-    (omega (arith, s .pre .2 .number, s .pre .2 .pattern .few), s .pre .2 .roomy, loop-keeps (a .ticks .now) (a .events .now) (a .n) (s .pre .0) (a .rows .now) (a .count) (a .k) (s .pre .1) (a .antecedent) (a .pts .now) (a .np) (a .due .now) (s .pre .2) re (l .loop .env) (l .loop .inv .0) (l .loop .inv .1) (x .result) (x .last .1 .1 .1 .1 .1 .1 .1 .1 .1 .0) (x .ensures .0) (x .ensures .1) .size, loop-room (a .ticks .now) (a .events .now) (a .n) (s .pre .0) (a .rows .now) (a .count) (a .k) (s .pre .1) (a .antecedent) (a .pts .now) (a .np) (a .due .now) (s .pre .2) re (l .loop .env) (l .loop .inv .0) (l .loop .inv .1) (x .result) (x .last .1 .1 .1 .1 .1 .1 .1 .1 .1 .0) (x .ensures .0) (x .ensures .1) (not-false _ (c .before .before .before .if2 .left)))
+    (omega (arith, s .pre .2 .number, s .pre .2 .pattern .few), s .pre .2 .roomy, loop-keeps (a .ticks .now) (a .events .now) (a .n) (s .pre .0) (a .rows .now) (a .count) (a .k) (s .pre .1) (a .antecedent) (a .pts .now) (a .np) (a .slots .now) (s .pre .2) re (l .loop .env) (l .loop .inv .0) (l .loop .inv .1) (x .result) (x .last .1 .1 .1 .1 .1 .1 .1 .1 .1 .0) (x .ensures .0) (x .ensures .1) .size, loop-room (a .ticks .now) (a .events .now) (a .n) (s .pre .0) (a .rows .now) (a .count) (a .k) (s .pre .1) (a .antecedent) (a .pts .now) (a .np) (a .slots .now) (s .pre .2) re (l .loop .env) (l .loop .inv .0) (l .loop .inv .1) (x .result) (x .last .1 .1 .1 .1 .1 .1 .1 .1 .1 .0) (x .ensures .0) (x .ensures .1) (not-false _ (c .before .before .before .if2 .left)))
 
 returns-4 : tie.Need-returns-4 Inv-loop μ-loop
 returns-4 c =
@@ -98,7 +98,7 @@ returns-4 c =
     let x = c .before .before .before .before .before .before .before .before .before .next in
     let f = c .before .before .before .before .before .before .at-fault in
     let g = c .before .before .before .pass in
-    c .unviolated3 .ensures ∙ loop-last (a .ticks .now) (a .events .now) (a .n) (s .pre .0) (a .rows .now) (a .count) (a .k) (s .pre .1) (a .antecedent) (a .pts .now) (a .np) (a .due .now) (s .pre .2) re (l .loop .env) (l .loop .inv .0) (l .loop .inv .1) (x .result) (x .last .1 .1 .1 .1 .1 .1 .1 .1 .1 .0) (x .ensures .0) (x .ensures .1) (not-false _ (c .before .before .before .before .before .before .before .if2 .left)) (f .result) (f .ensures) (c .before .before .before .before .before .if3 .left) (no-points (a .np) (g .result) (g .ensures .0) (not-true _ (c .before .if4 .taken)))
+    c .unviolated3 .ensures ∙ loop-last (a .ticks .now) (a .events .now) (a .n) (s .pre .0) (a .rows .now) (a .count) (a .k) (s .pre .1) (a .antecedent) (a .pts .now) (a .np) (a .slots .now) (s .pre .2) re (l .loop .env) (l .loop .inv .0) (l .loop .inv .1) (x .result) (x .last .1 .1 .1 .1 .1 .1 .1 .1 .1 .0) (x .ensures .0) (x .ensures .1) (not-false _ (c .before .before .before .before .before .before .before .if2 .left)) (f .result) (f .ensures) (c .before .before .before .before .before .if3 .left) (no-points (a .np) (g .result) (g .ensures .0) (not-true _ (c .before .if4 .taken)))
 
 loop-less : tie.Need-loop-less Inv-loop μ-loop
 loop-less c =
@@ -110,7 +110,7 @@ loop-less c =
     let f = c .before .before .before .before .before .at-fault in
     let g = c .before .before .pass in
     let nz = some-points (a .np) (g .result) (g .ensures .0) (not-false _ (c .if4 .left)) in
-    loop-falls (a .ticks .now) (a .events .now) (a .n) (s .pre .0) (a .rows .now) (a .count) (a .k) (s .pre .1) (a .antecedent) (a .pts .now) (a .np) (a .due .now) (s .pre .2) re (l .loop .env) (l .loop .inv .0) (l .loop .inv .1) (x .result) (x .last .1 .1 .1 .1 .1 .1 .1 .1 .1 .0) (x .ensures .0) (x .ensures .1) (not-false _ (c .before .before .before .before .before .before .if2 .left)) (f .result) (f .ensures) nz (g .last .1 .1 .0) (g .ensures .1 nz) (l .loop .inv .2)
+    loop-falls (a .ticks .now) (a .events .now) (a .n) (s .pre .0) (a .rows .now) (a .count) (a .k) (s .pre .1) (a .antecedent) (a .pts .now) (a .np) (a .slots .now) (s .pre .2) re (l .loop .env) (l .loop .inv .0) (l .loop .inv .1) (x .result) (x .last .1 .1 .1 .1 .1 .1 .1 .1 .1 .0) (x .ensures .0) (x .ensures .1) (not-false _ (c .before .before .before .before .before .before .if2 .left)) (f .result) (f .ensures) nz (g .last .1 .1 .0) (g .ensures .1 nz) (l .loop .inv .2)
 
 loop-again : tie.Need-loop-again Inv-loop μ-loop
 loop-again c =
@@ -122,9 +122,9 @@ loop-again c =
     let f = c .before .before .before .before .before .at-fault in
     let g = c .before .before .pass in
     let nz = some-points (a .np) (g .result) (g .ensures .0) (not-false _ (c .if4 .left)) in (
-      pass-keeps (a .ticks .now) (a .events .now) (a .n) (s .pre .0) (a .rows .now) (a .count) (a .k) (s .pre .1) (a .antecedent) (a .pts .now) (a .np) (a .due .now) (s .pre .2) re (l .loop .env) (l .loop .inv .0) (l .loop .inv .1) (x .result) (x .last .1 .1 .1 .1 .1 .1 .1 .1 .1 .0) (x .ensures .0) (x .ensures .1) (not-false _ (c .before .before .before .before .before .before .if2 .left)) (f .result) (f .ensures) nz (g .last .1 .1 .0) (g .ensures .1 nz),
-      loop-miss (a .ticks .now) (a .events .now) (a .n) (s .pre .0) (a .rows .now) (a .count) (a .k) (s .pre .1) (a .antecedent) (a .pts .now) (a .np) (a .due .now) (s .pre .2) re (l .loop .env) (l .loop .inv .0) (l .loop .inv .1) (x .result) (x .last .1 .1 .1 .1 .1 .1 .1 .1 .1 .0) (x .ensures .0) (x .ensures .1) (not-false _ (c .before .before .before .before .before .before .if2 .left)) (f .result) (f .ensures) nz (g .last .1 .1 .0) (g .ensures .1 nz) (c .before .before .before .before .if3 .left),
-      pass-below (a .ticks .now) (a .events .now) (a .n) (s .pre .0) (a .rows .now) (a .count) (a .k) (s .pre .1) (a .antecedent) (a .pts .now) (a .np) (a .due .now) (s .pre .2) re (l .loop .env) (l .loop .inv .0) (l .loop .inv .1) (x .result) (x .last .1 .1 .1 .1 .1 .1 .1 .1 .1 .0) (x .ensures .0) (x .ensures .1) (not-false _ (c .before .before .before .before .before .before .if2 .left)) (f .result) (f .ensures) nz (g .last .1 .1 .0) (g .ensures .1 nz),
+      pass-keeps (a .ticks .now) (a .events .now) (a .n) (s .pre .0) (a .rows .now) (a .count) (a .k) (s .pre .1) (a .antecedent) (a .pts .now) (a .np) (a .slots .now) (s .pre .2) re (l .loop .env) (l .loop .inv .0) (l .loop .inv .1) (x .result) (x .last .1 .1 .1 .1 .1 .1 .1 .1 .1 .0) (x .ensures .0) (x .ensures .1) (not-false _ (c .before .before .before .before .before .before .if2 .left)) (f .result) (f .ensures) nz (g .last .1 .1 .0) (g .ensures .1 nz),
+      loop-miss (a .ticks .now) (a .events .now) (a .n) (s .pre .0) (a .rows .now) (a .count) (a .k) (s .pre .1) (a .antecedent) (a .pts .now) (a .np) (a .slots .now) (s .pre .2) re (l .loop .env) (l .loop .inv .0) (l .loop .inv .1) (x .result) (x .last .1 .1 .1 .1 .1 .1 .1 .1 .1 .0) (x .ensures .0) (x .ensures .1) (not-false _ (c .before .before .before .before .before .before .if2 .left)) (f .result) (f .ensures) nz (g .last .1 .1 .0) (g .ensures .1 nz) (c .before .before .before .before .if3 .left),
+      pass-below (a .ticks .now) (a .events .now) (a .n) (s .pre .0) (a .rows .now) (a .count) (a .k) (s .pre .1) (a .antecedent) (a .pts .now) (a .np) (a .slots .now) (s .pre .2) re (l .loop .env) (l .loop .inv .0) (l .loop .inv .1) (x .result) (x .last .1 .1 .1 .1 .1 .1 .1 .1 .1 .0) (x .ensures .0) (x .ensures .1) (not-false _ (c .before .before .before .before .before .before .if2 .left)) (f .result) (f .ensures) nz (g .last .1 .1 .0) (g .ensures .1 nz),
     )
 
 pub first-violation-spec : {M : Type 1} → statement M
