@@ -55,8 +55,8 @@ pub fn wide(x: u32) -> u64
     x as u64
 }
 
-// Row j of rows that stand in a slice, six numbers to a row.
-pub fn row_at(rows: &[u32], j: u32) -> Row
+// Row j of rows of which the slice may have a part; the rest is 0.
+fn row_of_part(rows: &[u32], j: u32) -> Row
     requires { ⌜ j < 1000 ⌝ }
     ensures { λ r. ⌜ decode (r .kind) (r .p) (r .q) (r .a) (r .b) ≡ rowAt (now (rows .entry)) j ⌝ }
 {
@@ -66,6 +66,26 @@ pub fn row_at(rows: &[u32], j: u32) -> Row
     let a = wide(at(rows, 6 * j + 4));
     let b = wide(at(rows, 6 * j + 5));
     Row { kind, p, q, a, b }
+}
+
+// Row j of rows that stand in a slice, six numbers to a row.
+pub fn row_at(rows: &[u32], j: u32) -> Row
+    requires { ⌜ j < 1000 ⌝ }
+    ensures { λ r. ⌜ decode (r .kind) (r .p) (r .q) (r .a) (r .b) ≡ rowAt (now (rows .entry)) j ⌝ }
+{
+    let i = 6 * j as usize;
+    if rows.len() < i + 6 {
+        return row_of_part(rows, j);
+    }
+    let a = wide(rows[i + 4]);
+    let b = wide(rows[i + 5]);
+    Row {
+        kind: rows[i + 1],
+        p: rows[i + 2],
+        q: rows[i + 3],
+        a,
+        b,
+    }
 }
 
 // Whether x is the first position after y with its event in s.

@@ -27,7 +27,7 @@ use Rattle.scenario.proofs.Agreement.{Base, is-start, is-close, is-antecedent}
 use Rattle.runlog.specs.Held.{Held, runAt}
 use Rattle.pattern.specs.Decode.{by, rowAt, listed, rowsOf}
 use Rattle.search.specs.Matching.{after, next-matching, isFound}
-use Rattle.search.specs.Placing.{ready, planOf, Prepared, Fixture, Latest}
+use Rattle.search.specs.Placing.{dueOf, ready, planOf, Prepared, Fixture, Latest}
 use Rattle.runlog.proofs.Logs.{seen-laws, part-length}
 use Rattle.search.proofs.Finding.{blank as blank-env, planned}
 use Rattle.search.proofs.Found.{search-none}
@@ -112,7 +112,7 @@ module _ (rows : List ℕ) (count k : ℕ) (S : SheetHeld rows count k) where
 
   -- what is prepared
   pub antecedent-prepared : (ticks events : List ℕ) (n : ℕ) → Held ticks events n → (a : ℕ) → a ≡ length (whole-sheet .antecedent) → (pts : List ℕ) (np : ℕ) (slots : List ℕ)
-      → np ≡ length (points (rowsOf rows a)) → take np pts ≡ points (rowsOf rows a) → ((j : ℕ) → j < a → Latest pts np (getD slots j 0) (rowAt rows j)) → length pts ≡ 58
+      → np ≡ length (points (rowsOf rows a)) → take np pts ≡ points (rowsOf rows a) → ((j : ℕ) → j < a → Latest pts np (dueOf slots j) (rowAt rows j)) → length pts ≡ 58
       → AntecedentPrepared (runAt ticks events n) n rows count k a pts np slots
   antecedent-prepared ticks events n H a e pts np slots en ep ed l = record {
     antecedent-rows = ap (rowsOf rows) e ∙ antecedent-rows;

@@ -1,17 +1,15 @@
--- `row_at` meets its contract: the five numbers are those from 6j + 1 on.
+-- `row_at` meets its contract: where the whole row is there its numbers are read as they stand.
 -- Assumes nothing.
+use mathlib.Core.Path.{refl}
 use Rattle.pattern.proofs.Rows.{row-is}
 use borrow.Author.Needs.{needs}
 use Rattle.pattern.proofs.row_at.Statement.{statement}
 use Rattle.pattern.proofs.row_at.Tie as tie
 
-returns : tie.Need-returns
-returns c =
-    let s = c .before .before .before .before .before .before in
-    row-is (s .before .before .args .rows .now) (s .before .before .args .j) (s .at .result) (c .before .before .before .before .before .at2 .result)
-    (c .before .before .before .before .at3 .result) (c .before .before .wide .result) (c .before .before .before .at4 .result) (c .wide2 .result) (c .before .at5 .result)
-    (s .at .ensures) (c .before .before .before .before .before .at2 .ensures) (c .before .before .before .before .at3 .ensures)
-    (c .before .before .wide .ensures) (c .before .before .before .at4 .ensures) (c .wide2 .ensures) (c .before .at5 .ensures)
+returns-2 : tie.Need-returns-2
+returns-2 c =
+    let a = c .before .before .before .before .before .before .before .before .before .args in
+    row-is (a .rows .now) (a .j) _ _ _ (c .before .before .before .before .before .wide .result) _ (c .before .before .before .wide2 .result) _ refl refl refl (c .before .before .before .before .before .wide .ensures) refl (c .before .before .before .wide2 .ensures) refl
 
 pub row-at-spec : {M : Type 1} → statement M
 row-at-spec =
@@ -22,16 +20,20 @@ row-at-spec =
     (λ c κs. search needs)
     (λ c. search needs)
     (λ c. search needs)
-    (λ c κs. search needs)
     (λ c. search needs)
     (λ c. search needs)
     (λ c κs. search needs)
     (λ c. search needs)
     (λ c. search needs)
-    (λ c κs. search needs)
+    (λ c. search needs)
     (λ c κs. search needs)
     (λ c. search needs)
     (λ c. search needs)
-    (λ c κs. search needs)
-    (λ c κs. search needs)
-    returns)
+    (λ c. search needs)
+    (λ c. search needs)
+    (λ c. search needs)
+    (λ c. search needs)
+    (λ c. search needs)
+    (λ c. search needs)
+    (λ c. search needs)
+    returns-2)

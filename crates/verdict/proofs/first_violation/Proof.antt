@@ -16,6 +16,7 @@ use Rattle.pattern.specs.Decode.{by, rowsOf}
 use Rattle.search.specs.Placing.{Fixture}
 use Rattle.search.proofs.Finding.{blank}
 use Rattle.verdict.specs.Memory.{sheetAt}
+use Rattle.search.proofs.Steps.{never}
 use Rattle.search.proofs.Turn.{still}
 use Rattle.verdict.proofs.Matchings.{no-points, some-points, holds, unready, fixture, prepared, begin, begin-below, loop-none, loop-keeps, loop-room, loop-hit, loop-last, loop-miss, pass-keeps, pass-below, loop-falls}
 use Rattle.verdict.proofs.first_violation.Statement.{statement}
@@ -32,7 +33,7 @@ abbrev μ-loop : tie.MeasureT-loop
 μ-loop ticks events n rows count k antecedent pts np slots heads links env₀ env = still (length (part events n)) (length (points (rowsOf rows antecedent))) (map (by env) (points (rowsOf rows antecedent)))
 
 ready-requires : tie.Need-ready-requires Inv-loop μ-loop
-ready-requires c κs = let s = c .before .before .before .before .before .before .before .before in (s .pre .0, s .pre .2 .few, s .pre .3, omega arith)
+ready-requires c κs = let s = c .before .before .before .before .before .before .before .before in (s .pre .0, s .pre .2 .few, s .pre .3, omega arith, λ q. never q)
 
 returns : tie.Need-returns Inv-loop μ-loop
 returns c =
