@@ -1,56 +1,75 @@
-//! Demand 3 and every operation, on every so-many-th pair of the enumerated families and on random pairs.
+//! Demand 3 and every operation: on a small family whole, on a part of the larger families, on random pairs and on longer logs.
 mod common;
-use common::{counted, random_pairs, tell};
-use satskhubo_tests::compare::{compare, Comparison, Mismatch};
-use satskhubo_tests::generate::logs::of_length;
-use satskhubo_tests::generate::{families, sheets, Pair};
+use common::{random_pairs, tallied, tell_tally};
+use satskhubo_tests::compare::{compare, compare_once, Tally};
+use satskhubo_tests::generate::logs::{log_of, of_length};
+use satskhubo_tests::generate::sheets::{self, largest};
+use satskhubo_tests::generate::targeted::with_denials;
+use satskhubo_tests::generate::{families, Pair};
 use satskhubo_tests::host::Host;
 use satskhubo_tests::random::Random;
 
-/// Every stride-th pair of a family, each sheet meeting different logs.
-fn family(name: &str, sheets: Vec<Vec<u8>>, stride: usize) {
-    let logs: Vec<Vec<u8>> = families::logs().iter().map(|log| log.text()).collect();
-    let mut comparisons = 0;
-    for index in (0..sheets.len() * logs.len()).step_by(stride) {
-        let pair = Pair { sheet: sheets[index / logs.len()].clone(), log: logs[index % logs.len()].clone() };
-        comparisons += counted(compare(&Host, &pair, index as u64, 4));
+fn family_logs() -> Vec<Vec<u8>> {
+    families::logs().iter().map(|log| log.text()).collect()
+}
+
+#[test]
+fn the_small_family_whole() {
+    let logs = family_logs();
+    let mut whole = Tally::default();
+    for family in families::small() {
+        let pairs = family.sheets.iter().flat_map(|sheet| logs.iter().map(|log| Pair { sheet: sheet.clone(), log: log.clone() }));
+        let tally: Tally = pairs.map(|pair| tallied(compare_once(&Host, &pair))).sum();
+        assert_eq!(tally.whole, (family.sheets.len() * logs.len()) as u64, "{}", family.name);
+        tell_tally(
+            &format!("agreement: {}, all {} sheets times all {} logs", family.name, family.sheets.len(), logs.len()),
+            tally,
+        );
+        whole += tally;
     }
-    let all = sheets.len() * logs.len();
-    tell(&format!("{name}, {} of {all} pairs", all.div_ceil(stride)), comparisons);
+    assert!(whole.comparisons >= 300_000);
 }
 
+/// Every so-many-th pair of each family, so that sheets meet different logs; `soak families` compares them whole.
 #[test]
-fn sheets_without_consequents() {
-    family("agreement: no consequents", families::without_consequents(), 37);
+fn a_part_of_the_larger_families() {
+    let logs = family_logs();
+    for (family, stride) in families::large().into_iter().zip([37, 2003, 397]) {
+        let all = family.sheets.len() * logs.len();
+        let pair =
+            |index: usize| Pair { sheet: family.sheets[index / logs.len()].clone(), log: logs[index % logs.len()].clone() };
+        let tally = (0..all).step_by(stride).map(|index| tallied(compare(&Host, &pair(index), index as u64, 4))).sum();
+        tell_tally(&format!("agreement: {}, a part of {all} pairs", family.name), tally);
+    }
 }
 
-#[test]
-fn sheets_with_one_consequent() {
-    family("agreement: one consequent", families::one_consequent(), 2003);
-}
-
-#[test]
-fn sheets_with_two_consequents() {
-    family("agreement: two consequents", families::two_consequents(), 397);
-}
-
-/// The searches of every number against the check, on logs too long for brute force.
 #[test]
 fn longer_logs() {
     let mut random = Random::new(81);
-    let mut comparisons = 0;
+    let mut tally = Tally::default();
     for n in [8, 12, 20, 33] {
         for _ in 0..120 {
             let pair = Pair { sheet: sheets::random(&mut random, &sheets::SMALL), log: of_length(&mut random, n).text() };
-            let mut comparison = Comparison::new(&Host, &pair, n.into());
-            comparison.demand_3_alone().unwrap_or_else(|Mismatch(text)| panic!("{text}"));
-            comparisons += comparison.comparisons;
+            tally += tallied(compare(&Host, &pair, n.into(), 4));
         }
     }
-    tell("agreement: longer logs", comparisons);
+    tell_tally("agreement: longer logs", tally);
+}
+
+/// 58 points and 98 rows, and N = 4,096, each with all its numbers.
+#[test]
+fn the_largest_sheets() {
+    let logs = [&[][..], &[(1, 3)], &[(1, 3), (2, 1), (3, 3)], &[(1, 3), (2, 1), (2, 1), (3, 3)]];
+    let mut tally = Tally::default();
+    for log in logs.map(|lines| log_of(lines).text()) {
+        for sheet in [largest(), with_denials([4; 6])] {
+            tally += tallied(compare(&Host, &Pair { sheet, log: log.clone() }, 0, 4096));
+        }
+    }
+    tell_tally("agreement: largest sheets", tally);
 }
 
 #[test]
 fn pairs_at_random() {
-    tell("agreement: random pairs", random_pairs(&Host, 1_000_000, 3000));
+    tell_tally("agreement: random pairs", random_pairs(&Host, 1_000_000, 10_000));
 }

@@ -1,9 +1,11 @@
 //! The checker can fail: each blunder of document 01, put into a copy of the reference, is found within a few pairs.
 mod common;
-use satskhubo_tests::compare::{compare, Comparison, Mismatch};
+use satskhubo_tests::compare::{compare, compare_once, Comparison, Mismatch};
 use satskhubo_tests::expected::Blundering;
 use satskhubo_tests::generate::pairs::pair_of;
+use satskhubo_tests::generate::{families, Pair};
 use satskhubo_tests::reference::blunder::Blunder;
+use satskhubo_tests::reference::operations::open;
 use std::io::Write;
 
 const MOST_PAIRS: u64 = 400;
@@ -24,15 +26,49 @@ fn is_found(blunder: Blunder) {
     writeln!(std::io::stderr(), "{blunder:?} found at pair {pairs}: {first}").unwrap();
 }
 
-/// Demand 3 alone, with no look at the reference, sees the blunders that let a run be missed or invented.
+/// The blunders that let a run be missed or invented.
+const AGAINST_DEMAND_3: [Blunder; 5] =
+    [Blunder::ReverseOnly, Blunder::DifferentLines, Blunder::EndsBetween, Blunder::BringsAll, Blunder::NoneWithoutConsequents];
+
+fn break_demand_3(name: &str, breaks: impl Fn(&mut Comparison<Blundering>) -> bool) {
+    for blunder in AGAINST_DEMAND_3 {
+        let broken = |seed: &u64| breaks(&mut Comparison::new(&Blundering(blunder), &pair_of(*seed), *seed));
+        let pairs = (0..4 * MOST_PAIRS).find(broken).unwrap_or_else(|| panic!("{blunder:?} keeps {name}")) + 1;
+        writeln!(std::io::stderr(), "{blunder:?} breaks {name} at pair {pairs}").unwrap();
+    }
+}
+
+#[test]
+fn demand_3_finds_them() {
+    break_demand_3("demand 3", |comparison| comparison.demand_3().is_err());
+}
+
+/// With no look at the reference.
 #[test]
 fn demand_3_alone_finds_them() {
-    use Blunder::*;
-    for blunder in [ReverseOnly, DifferentLines, EndsBetween, BringsAll, NoneWithoutConsequents] {
-        let seen = (0..4 * MOST_PAIRS)
-            .find(|&seed| Comparison::new(&Blundering(blunder), &pair_of(seed), seed).demand_3_alone().is_err());
-        let pairs = seen.unwrap_or_else(|| panic!("{blunder:?} keeps demand 3")) + 1;
-        writeln!(std::io::stderr(), "{blunder:?} breaks demand 3 at pair {pairs}").unwrap();
+    break_demand_3("demand 3 alone", |comparison| comparison.demand_3_alone().is_err());
+}
+
+/// With the reference blundering as the side does, so that no operation differs.
+#[test]
+fn demand_3_finds_them_where_both_blunder() {
+    break_demand_3("demand 3 of both", |comparison| {
+        let Blundering(blunder) = *comparison.side;
+        comparison.opened = open(&comparison.pair.sheet, &comparison.pair.log, blunder);
+        comparison.demand_3().is_err()
+    });
+}
+
+/// Every so-many-th pair of the small family that the gate compares whole is enough.
+#[test]
+fn the_small_family_finds_them() {
+    let logs: Vec<Vec<u8>> = families::logs().iter().map(|log| log.text()).collect();
+    let sheets: Vec<Vec<u8>> = families::small().into_iter().flat_map(|family| family.sheets).collect();
+    let pair = |index: usize| Pair { sheet: sheets[index / logs.len()].clone(), log: logs[index % logs.len()].clone() };
+    for blunder in AGAINST_DEMAND_3.into_iter().chain([Blunder::BringsEarlier]) {
+        let mut indexes = (0..sheets.len() * logs.len()).step_by(31);
+        let found = indexes.find(|&index| compare_once(&Blundering(blunder), &pair(index)).is_err());
+        assert!(found.is_some(), "{blunder:?} is not found");
     }
 }
 

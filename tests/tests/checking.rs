@@ -41,7 +41,7 @@ fn longer_logs() {
     tell("checking: longer logs", comparisons);
 }
 
-/// Logs of thousands of lines, beside plain Rust, which the reference vouches for on small ones.
+/// Many sheets on logs of thousands of lines, beside plain Rust; `long_logs.rs` has the reference beside them.
 #[test]
 fn logs_of_thousands_of_lines() {
     let mut random = Random::new(73);
@@ -59,7 +59,7 @@ fn logs_of_thousands_of_lines() {
 #[test]
 fn sheet_s_on_long_logs() {
     let mut comparisons = 0;
-    for log in [mixed(500), uniform(4000, 3), uniform(4000, 1), uniform(0, 3)] {
+    for log in [mixed(4000), uniform(4000, 3), uniform(4000, 1), uniform(0, 3)] {
         comparisons += checks_alike(&Pair { sheet: sheet_s(), log: log.text() }, 0);
     }
     tell("checking: S", comparisons);

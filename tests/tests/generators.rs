@@ -1,9 +1,14 @@
-//! What the random pairs reach: every kind in every section that permits it, both verdicts, and every refusal of a reading but 10,
-//! which needs a longer section than they have and is left to the targeted texts.
+//! What the random pairs and their arguments reach: every kind in every section that permits it, both verdicts, and every refusal; and
+//! what the small family has.
+use satskhubo_tests::generate::arguments::{arguments_of, Arguments};
+use satskhubo_tests::generate::families;
 use satskhubo_tests::generate::pairs::pair_of;
+use satskhubo_tests::reference::antiscenario::antiscenario;
 use satskhubo_tests::reference::blunder::Blunder;
-use satskhubo_tests::reference::operations::{open, Verdict};
-use satskhubo_tests::reference::sheet::{introduced, Row, CLOSE, START};
+use satskhubo_tests::reference::log::Log;
+use satskhubo_tests::reference::operations::{open, Opened, Verdict};
+use satskhubo_tests::reference::refusal::Refusal;
+use satskhubo_tests::reference::sheet::{self, introduced, kind::*, Row, Sheet, CLOSE, START};
 use satskhubo_tests::reference::weeded;
 use std::collections::BTreeMap;
 use std::io::Write;
@@ -17,27 +22,57 @@ fn count(reached: &mut Reached, what: String) {
 }
 
 fn of_row(reached: &mut Reached, row: &Row) {
-    let section = if row.section == 0 { "antecedent" } else { "consequent" };
-    count(reached, format!("kind {} in {section}", row.kind));
-    if row.kind == 9 || row.kind == 2 || row.kind == 3 {
-        for (point, name) in [(START, "start"), (CLOSE, "close")] {
-            if row.q == point || row.kind == 9 && row.p == point {
-                count(reached, format!("kind {} with the {name}", row.kind));
-            }
+    count(reached, format!("kind {} in section {}", row.kind, row.section));
+    for (point, name) in [(START, "start"), (CLOSE, "close")] {
+        if row.p == point || row.q == point && ![POINT, EVENT].contains(&row.kind) {
+            count(reached, format!("kind {} with the {name}", row.kind));
         }
     }
-    if row.kind == 12 && row.a == 0 {
+    if row.kind == EVENT && row.a == 0 {
         count(reached, "EVENT with no event".into());
     }
+}
+
+/// Sections of a sheet without rows, and points of a matching in one position.
+fn of_sections_and_positions(reached: &mut Reached, sheet: &Sheet, log: &Log) {
+    let last = sheet.rows.last().map_or(0, |row| row.section);
+    for section in (1..=sheet.k).filter(|&section| sheet.section(section).is_empty()) {
+        count(reached, if section < last { "a consequent skipped" } else { "a consequent empty" }.into());
+    }
+    if let Some(mut positions) = (sheet.count > 0).then(|| weeded::smallest(&antiscenario(sheet, 1), log)).flatten() {
+        let points = positions.len();
+        positions.sort();
+        positions.dedup();
+        count(reached, if positions.len() < points { "positions shared" } else { "positions not shared" }.into());
+    }
+}
+
+fn count_refusal<T>(reached: &mut Reached, answer: Result<T, Refusal>) {
+    if let Err(refusal) = answer {
+        count(reached, format!("refusal {}", refusal.number()));
+    }
+}
+
+/// The refusals of both texts, each for itself, and those of the arguments that the comparison tries on them.
+fn of_refusals(reached: &mut Reached, opened: &Opened, seed: u64) {
+    count_refusal(reached, opened.read_sheet());
+    count_refusal(reached, opened.read_log());
+    if opened.sheet.is_err() || opened.log.is_err() {
+        return;
+    }
+    let Arguments { number, room, places, table } = arguments_of(seed, opened);
+    count_refusal(reached, opened.write(number, room));
+    count_refusal(reached, opened.search(number, places));
+    count_refusal(reached, opened.judge(number, &table.positions, table.count));
 }
 
 fn of_pair(reached: &mut Reached, seed: u64) {
     let pair = pair_of(seed);
     let opened = open(&pair.sheet, &pair.log, Blunder::None);
-    let (answer, _) = opened.show();
-    count(reached, format!("refusal {answer}"));
+    of_refusals(reached, &opened, seed);
     let (Ok(sheet), Ok(log)) = (&opened.sheet, &opened.log) else { return };
     sheet.rows.iter().for_each(|row| of_row(reached, row));
+    of_sections_and_positions(reached, sheet, log);
     count(reached, format!("k {}", sheet.k));
     count(reached, format!("{} antecedent points", introduced(&sheet.rows, 0).len()));
     count(reached, format!("n {}", log.n()));
@@ -54,6 +89,34 @@ fn of_pair(reached: &mut Reached, seed: u64) {
     }
 }
 
+/// Kinds 2 and 3 with the end that they permit, and 9 to 11 with both.
+fn kinds_with_ends() -> Vec<String> {
+    let one_end = [(2, "start"), (3, "close")].into_iter();
+    let both_ends = (9..=11).flat_map(|kind| [(kind, "start"), (kind, "close")]);
+    one_end.chain(both_ends).map(|(kind, end)| format!("kind {kind} with the {end}")).collect()
+}
+
+fn kinds_in(sections: std::ops::RangeInclusive<u32>) -> Vec<String> {
+    let kinds = |section| if section == 0 { vec![1, 6, 7, 8, 9, 10, 11, 12] } else { (2..=12).collect::<Vec<u32>>() };
+    sections.flat_map(|section| kinds(section).into_iter().map(move |kind| format!("kind {kind} in section {section}"))).collect()
+}
+
+fn are_reached(reached: &Reached, wanted: &[String]) {
+    for what in wanted {
+        assert!(reached.contains_key(what), "{what} is not reached");
+    }
+}
+
+#[test]
+fn the_small_family_has_every_kind() {
+    let mut reached = Reached::new();
+    for text in families::small().iter().flat_map(|family| &family.sheets) {
+        let sheet = sheet::read(text, Blunder::None).expect("a family's sheet is accepted");
+        sheet.rows.iter().for_each(|row| of_row(&mut reached, row));
+    }
+    are_reached(&reached, &[kinds_in(0..=1), kinds_with_ends(), vec!["EVENT with no event".into()]].concat());
+}
+
 #[test]
 fn random_pairs_reach_everything() {
     let mut reached = Reached::new();
@@ -61,17 +124,16 @@ fn random_pairs_reach_everything() {
     let mut wanted: Vec<String> = (0..=6).map(|k| format!("k {k}")).collect();
     wanted.extend((0..=4).map(|points| format!("{points} antecedent points")));
     wanted.extend((0..=6).map(|n| format!("n {n}")));
-    wanted.extend([0].into_iter().chain(1..=9).chain([11]).chain(21..=27).map(|refusal| format!("refusal {refusal}")));
-    wanted.extend([1, 6, 7, 8, 9, 10, 11, 12].map(|kind| format!("kind {kind} in antecedent")));
-    wanted.extend((2..=12).map(|kind| format!("kind {kind} in consequent")));
-    wanted.extend(
-        ["kind 2 with the start", "kind 3 with the close", "kind 9 with the start", "kind 9 with the close"].map(String::from),
+    let refusals: Vec<String> = (1..=11).chain(21..=27).chain(31..=34).map(|refusal| format!("refusal {refusal}")).collect();
+    wanted.extend(refusals.clone());
+    wanted.extend([kinds_in(0..=6), kinds_with_ends()].concat());
+    wanted.extend(["EVENT with no event", "a consequent skipped", "a consequent empty", "positions shared"].map(String::from));
+    wanted.extend(["N 0", "holds", "holds by its consequents", "violated"].map(String::from));
+    are_reached(&reached, &wanted);
+    let mut told = refusals;
+    told.extend(
+        ["antecedent matched", "antecedent not matched", "holds by its consequents", "violated", "N 0"].map(String::from),
     );
-    wanted.extend(["EVENT with no event", "N 0", "holds", "holds by its consequents", "violated"].map(String::from));
-    for what in &wanted {
-        assert!(reached.contains_key(what), "{what} is not reached");
-    }
-    let told = ["refusal 0", "antecedent matched", "antecedent not matched", "holds by its consequents", "violated", "N 0"]
-        .map(|what| format!("{what}: {}", reached[what]));
+    let told: Vec<String> = told.into_iter().map(|what| format!("{what}: {}", reached[&what])).collect();
     writeln!(std::io::stderr(), "of {PAIRS} random pairs: {}", told.join(", ")).unwrap();
 }

@@ -4,6 +4,5 @@ use satskhubo_tests::plain::Plain;
 
 #[test]
 fn plain_rust_answers_as_the_reference() {
-    let comparisons = common::random_pairs(&Plain, 5000, 1500);
-    common::tell("plain", comparisons);
+    common::tell_tally("plain", common::random_pairs(&Plain, 5000, 1500));
 }

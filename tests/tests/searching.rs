@@ -43,7 +43,7 @@ fn longer_logs() {
     tell("searching: longer logs", comparisons);
 }
 
-/// Logs of thousands of lines, beside plain Rust, which the reference vouches for on small ones.
+/// Logs of thousands of lines beside plain Rust; `long_logs.rs` has the reference beside them.
 #[test]
 fn logs_of_thousands_of_lines() {
     let mut random = Random::new(63);
@@ -68,7 +68,7 @@ fn logs_of_thousands_of_lines() {
 #[test]
 fn sheet_s_on_long_logs() {
     let mut comparisons = 0;
-    for log in [mixed(500), uniform(400, 3), uniform(4000, 2), uniform(4000, 1)] {
+    for log in [mixed(4000), uniform(4000, 3), uniform(4000, 2), uniform(4000, 1)] {
         comparisons += searches_alike(&Pair { sheet: sheet_s(), log: log.text() }, 0, 4);
     }
     tell("searching: S", comparisons);

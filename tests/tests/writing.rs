@@ -2,13 +2,12 @@
 mod common;
 use common::tell;
 use satskhubo_tests::compare::{Comparison, Mismatch};
-use satskhubo_tests::generate::sheets::{self, sheet_s};
+use satskhubo_tests::generate::sheets::{self, largest, sheet_s};
 use satskhubo_tests::generate::targeted::with_denials;
 use satskhubo_tests::generate::Pair;
 use satskhubo_tests::host::Host;
 use satskhubo_tests::outcome::{Side, GUARD};
 use satskhubo_tests::random::Random;
-use satskhubo_tests::reference::sheet::{self, kind::*, Row};
 
 fn writes_alike(sheet: Vec<u8>, most_numbers: u64) -> u64 {
     let pair = Pair { sheet, log: vec![] };
@@ -58,19 +57,6 @@ fn random_sheets() {
         comparisons += writes_alike(sheets::random(&mut random, shape), 12);
     }
     tell("writing: random", comparisons);
-}
-
-/// Four antecedent points, and in each consequent eight points that the last row needs all, denied by FREE: 58 points, 98 rows.
-fn largest() -> Vec<u8> {
-    let mut rows: Vec<Row> = (1..=4).map(|p| Row::new(0, POINT, p, 0, 8, 0)).collect();
-    rows.extend(vec![Row::new(0, SAME, 1, 2, 0, 0); 28]);
-    for section in 1..=6 {
-        let ten = 10 * section;
-        rows.push(Row::new(section, EARLIER, ten + 1, 1, 2, 0));
-        rows.extend((2..=8).map(|index| Row::new(section, EARLIER, ten + index, ten + index - 1, 1, 0)));
-        rows.push(Row::new(section, FREE, ten + 8, 2, 2, 0));
-    }
-    sheet::text(6, &rows)
 }
 
 #[test]

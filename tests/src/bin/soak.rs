@@ -1,69 +1,123 @@
-//! Random pairs compared for as many seconds as asked: soak SECONDS [SEED].
-use satskhubo_tests::compare::{compare, Comparison, Mismatch};
-use satskhubo_tests::generate::pairs::pair_of;
-use satskhubo_tests::generate::{families, logs, sheets, Pair};
+//! Comparisons for as long as asked: soak SECONDS [SEED] with random pairs, soak families [PART of PARTS] with the larger families.
+use satskhubo_tests::compare::{compare, compare_long, compare_once, Mismatch, Tally};
+use satskhubo_tests::generate::families::{self, Family};
+use satskhubo_tests::generate::pairs::{long_pair_of, pair_of};
+use satskhubo_tests::generate::{logs, sheets, Pair};
 use satskhubo_tests::host::Host;
 use satskhubo_tests::random::Random;
 use std::time::{Duration, Instant, SystemTime, UNIX_EPOCH};
 
+const USAGE: &str = "soak SECONDS [SEED], or soak families [PART of PARTS]";
+/// The larger families tell how far they are each time so many sheets are done.
+const PROGRESS: usize = 2000;
+
+fn usage() -> ! {
+    eprintln!("usage: {USAGE}");
+    std::process::exit(2)
+}
+
+fn family_logs() -> Vec<Vec<u8>> {
+    families::logs().iter().map(|log| log.text()).collect()
+}
+
+/// Adds what was compared, or tells the mismatch and ends.
+fn add(tally: &mut Tally, result: Result<Tally, Mismatch>) {
+    match result {
+        Ok(more) => *tally += more,
+        Err(Mismatch(text)) => {
+            println!("after {} pairs and {} comparisons: {text}", tally.pairs, tally.comparisons);
+            std::process::exit(1);
+        }
+    }
+}
+
+/// One part of a family's sheets, every so-many-th, with all logs.
+fn part_of_family(family: &Family, logs: &[Vec<u8>], part: usize, parts: usize) -> Tally {
+    let mut tally = Tally::default();
+    for (done, sheet) in family.sheets.iter().skip(part - 1).step_by(parts).enumerate() {
+        for log in logs {
+            add(&mut tally, compare_once(&Host, &Pair { sheet: sheet.clone(), log: log.clone() }));
+        }
+        if (done + 1) % PROGRESS == 0 {
+            eprintln!("{}: {} sheets, {} comparisons", family.name, done + 1, tally.comparisons);
+        }
+    }
+    println!("{}: {} comparisons; {tally}", family.name, tally.comparisons);
+    tally
+}
+
+fn larger_families(part: usize, parts: usize) {
+    if part < 1 || part > parts {
+        usage();
+    }
+    let (begun, logs) = (Instant::now(), family_logs());
+    let families = families::large();
+    let all: usize = families.iter().map(|family| family.sheets.len() * logs.len()).sum();
+    let tally: Tally = families.iter().map(|family| part_of_family(family, &logs, part, parts)).sum();
+    let (comparisons, seconds) = (tally.comparisons, begun.elapsed().as_secs());
+    println!(
+        "families, part {part} of {parts}, {all} pairs in all: {comparisons} comparisons; {tally}; {seconds} s: no mismatch"
+    );
+}
+
 struct Soak {
-    sheets: Vec<Vec<u8>>,
-    logs: Vec<Vec<u8>>,
+    family_sheets: Vec<Vec<u8>>,
+    family_logs: Vec<Vec<u8>>,
 }
 
 impl Soak {
     fn new() -> Soak {
-        let sheets = [families::without_consequents(), families::one_consequent(), families::two_consequents()].concat();
-        Soak { sheets, logs: families::logs().iter().map(|log| log.text()).collect() }
+        let family_sheets = families::large().into_iter().flat_map(|family| family.sheets).collect();
+        Soak { family_sheets, family_logs: family_logs() }
     }
 
     /// Mostly the seed's own pair; else one of the families, or one with a longer log.
-    fn compare(&self, seed: u64) -> Result<u64, Mismatch> {
+    fn compare(&self, seed: u64) -> Result<Tally, Mismatch> {
         let mut random = Random::new(!seed);
-        match random.below(10) {
-            0 | 1 => {
-                let pair = Pair {
-                    sheet: self.sheets[random.below(self.sheets.len())].clone(),
-                    log: self.logs[random.below(self.logs.len())].clone(),
-                };
-                compare(&Host, &pair, seed, 12)
+        match random.below(100) {
+            0..=19 => {
+                let sheet = self.family_sheets[random.below(self.family_sheets.len())].clone();
+                let log = self.family_logs[random.below(self.family_logs.len())].clone();
+                compare(&Host, &Pair { sheet, log }, seed, 12)
             }
-            2 => {
+            20..=28 => {
                 let n = random.from_to(7, 40);
-                let pair =
-                    Pair { sheet: sheets::random(&mut random, &sheets::SMALL), log: logs::of_length(&mut random, n).text() };
-                let mut comparison = Comparison::new(&Host, &pair, seed);
-                comparison.checks()?;
-                comparison.demand_3_alone()?;
-                Ok(comparison.comparisons)
+                let sheet = sheets::random(&mut random, &sheets::SMALL);
+                compare(&Host, &Pair { sheet, log: logs::of_length(&mut random, n).text() }, seed, 12)
             }
+            29 => compare_long(&Host, &long_pair_of(seed), seed),
             _ => compare(&Host, &pair_of(seed), seed, 12),
         }
     }
 }
 
-fn number(argument: Option<String>) -> Option<u64> {
-    argument.map(|word| word.parse().expect("SECONDS and SEED are numbers"))
-}
-
-fn main() {
-    let mut arguments = std::env::args().skip(1);
-    let seconds = number(arguments.next()).expect("soak SECONDS [SEED]");
+fn random_pairs(seconds: u64, seed: Option<u64>) {
     let clock = SystemTime::now().duration_since(UNIX_EPOCH).expect("a clock").as_secs();
-    let first_seed = number(arguments.next()).unwrap_or(clock << 24);
+    let first_seed = seed.unwrap_or(clock << 24);
     println!("seed {first_seed}");
     let soak = Soak::new();
     let begun = Instant::now();
-    let (mut pairs, mut comparisons) = (0, 0);
+    let mut tally = Tally::default();
     while begun.elapsed() < Duration::from_secs(seconds) {
-        match soak.compare(first_seed.wrapping_add(pairs)) {
-            Ok(count) => comparisons += count,
-            Err(Mismatch(text)) => {
-                println!("after {pairs} pairs and {comparisons} comparisons: {text}");
-                std::process::exit(1);
-            }
-        }
-        pairs += 1;
+        let result = soak.compare(first_seed.wrapping_add(tally.pairs));
+        add(&mut tally, result);
     }
-    println!("{pairs} pairs, {comparisons} comparisons, seeds {first_seed} to {}: no mismatch", first_seed.wrapping_add(pairs));
+    let (comparisons, next_seed) = (tally.comparisons, first_seed.wrapping_add(tally.pairs));
+    println!("seeds {first_seed} up to {next_seed}: {comparisons} comparisons; {tally}: no mismatch");
+}
+
+fn number<N: std::str::FromStr>(word: &str) -> N {
+    word.parse().unwrap_or_else(|_| usage())
+}
+
+fn main() {
+    let arguments: Vec<String> = std::env::args().skip(1).collect();
+    let words: Vec<&str> = arguments.iter().map(String::as_str).collect();
+    match words[..] {
+        ["families"] => larger_families(1, 1),
+        ["families", part, "of", parts] => larger_families(number(part), number(parts)),
+        [seconds] => random_pairs(number(seconds), None),
+        [seconds, seed] => random_pairs(number(seconds), Some(number(seed))),
+        _ => usage(),
+    }
 }

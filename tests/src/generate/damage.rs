@@ -1,10 +1,10 @@
-//! Random damage of texts: bytes changed, lost or added, lines moved, and fields replaced by other numbers.
+//! Random damage of texts: bytes changed, lost or added, lines moved, fields replaced by other numbers, rows written over and over.
 use crate::random::Random;
 use crate::reference::columns::spell;
 
 const BYTES: [u8; 24] = *b"0123456789  \n\n\r\t+-.a\x00\x7f\xa0\xff";
 const NUMBERS: [u32; 22] = [0, 1, 2, 3, 4, 5, 6, 7, 8, 9, 10, 11, 12, 13, 19, 21, 31, 32, 98, 99, 176, 177];
-const LARGE_NUMBERS: [u32; 9] = [255, 256, 258, 999, 1000, 4001, 65536, 4_294_967_294, 4_294_967_295];
+const LARGE_NUMBERS: [u32; 11] = [255, 256, 258, 999, 1000, 4000, 4001, 65_536, 99_999, 4_294_967_294, 4_294_967_295];
 
 /// The widths of a text's first line and of its further lines.
 pub struct Columns {
@@ -27,7 +27,7 @@ fn other_number(random: &mut Random, text: &mut [u8], columns: &Columns) {
         return;
     }
     let lines = (text.len() - first) / further;
-    let line = random.below(lines + 1);
+    let line = if random.one_in(4) { 0 } else { random.below(lines + 1) };
     let (mut at, widths) = if line == 0 { (0, columns.first) } else { (first + (line - 1) * further, columns.further) };
     let field = random.below(widths.len());
     at += widths[..field].iter().sum::<usize>();
@@ -63,4 +63,21 @@ pub fn damage(random: &mut Random, text: &mut Vec<u8>, columns: &Columns) {
         6 => swap_lines(random, text, columns),
         _ => other_number(random, text, columns),
     }
+}
+
+const MOST_REPEATS: u32 = 40;
+
+/// Writes one row of a sheet over and over and counts it, so that its section may become too long.
+pub fn repeat_row(random: &mut Random, sheet: &mut Vec<u8>) {
+    let (first, row_length) = (line_length(SHEET.first), line_length(SHEET.further));
+    let rows = (sheet.len() - first) / row_length;
+    if rows == 0 {
+        return;
+    }
+    let at = first + random.below(rows) * row_length;
+    let times = random.from_to(1, MOST_REPEATS);
+    let repeated = sheet[at..at + row_length].repeat(times as usize);
+    sheet.splice(at..at, repeated);
+    let count = spell(rows as u32 + times, SHEET.first[1]).expect("a sheet has fewer than 1,000 rows");
+    sheet[SHEET.first[0]..first - 1].copy_from_slice(&count);
 }

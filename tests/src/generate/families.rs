@@ -1,10 +1,19 @@
-//! Small families written out in full: every sheet over a few sets and limits, and every log of up to three lines.
+//! Families written out in full: every sheet of a few shapes over a few sets and limits, and every log of up to three lines.
 use crate::reference::blunder::Blunder;
 use crate::reference::log::{Line, Log};
 use crate::reference::sheet::{self, introduced, kind::*, Row, CLOSE, START};
 
-const SETS: [u32; 3] = [1, 2, 3];
-const LIMITS: [(u32, u32); 3] = [(0, 0), (0, 1), (1, 2)];
+/// The texts of all sheets of a shape.
+pub struct Family {
+    pub name: &'static str,
+    pub sheets: Vec<Vec<u8>>,
+}
+
+impl Family {
+    fn new(name: &'static str, k: u32, sheets: &[Vec<Row>]) -> Family {
+        Family { name, sheets: sheets.iter().map(|rows| sheet::text(k, rows)).collect() }
+    }
+}
 
 /// Every log of up to three lines over events 0 and 1 and ticks 0 and 1, closing at the last tick or one later.
 pub fn logs() -> Vec<Log> {
@@ -28,88 +37,119 @@ fn longer(lines: &[Line]) -> Vec<Vec<Line>> {
     further.map(|line| [lines, &[line]].concat()).collect()
 }
 
+/// What rows are written with, besides points.
+struct Alphabet {
+    sets: &'static [u32],
+    sets_of_event: &'static [u32],
+    limits: &'static [(u32, u32)],
+}
+
+/// The distances of the logs are 0, 1 and 2.
+const FEW: Alphabet = Alphabet { sets: &[1], sets_of_event: &[0, 1], limits: &[(1, 1)] };
+const MORE: Alphabet = Alphabet { sets: &[1, 2, 3], sets_of_event: &[0, 1, 2], limits: &[(0, 0), (0, 1), (1, 2)] };
+
 fn pairs(points: &[u32]) -> Vec<(u32, u32)> {
     let all = points.iter().flat_map(|&p| points.iter().map(move |&q| (p, q)));
     all.filter(|(p, q)| p != q).collect()
 }
 
-/// Every row of kinds 6 to 12 over these ordinary points.
-fn demanding_rows(section: u32, ordinary: &[u32]) -> Vec<Row> {
-    let mut rows = Vec::new();
-    for (p, q) in pairs(ordinary) {
-        rows.extend([BEFORE, APART, SAME].map(|kind| Row::new(section, kind, p, q, 0, 0)));
-    }
-    for (p, q) in pairs(&[ordinary, &[START, CLOSE]].concat()) {
-        rows.extend(SETS.map(|set| Row::new(section, FREE, p, q, set, 0)));
-        rows.extend(LIMITS.map(|(a, b)| Row::new(section, WITHIN, p, q, a, b)));
-        rows.extend(LIMITS.map(|(a, b)| Row::new(section, OUTSIDE, p, q, a, b)));
-    }
-    for &p in ordinary {
-        rows.extend([0, 1, 2].map(|set| Row::new(section, EVENT, p, 0, set, 0)));
-    }
-    rows
+fn point(p: u32, set: u32) -> Row {
+    Row::new(0, POINT, p, 0, set, 0)
 }
 
-/// Every row of kinds 2 to 5 that introduces p.
-fn introducing_rows(section: u32, p: u32, ordinary: &[u32]) -> Vec<Row> {
-    let mut rows = Vec::new();
-    for set in SETS {
-        rows.extend(ordinary.iter().chain(&[START]).map(|&q| Row::new(section, NEXT, p, q, set, 0)));
-        rows.extend(ordinary.iter().chain(&[CLOSE]).map(|&q| Row::new(section, LAST, p, q, set, 0)));
+impl Alphabet {
+    /// Every row of kinds 6 to 12 over these ordinary points.
+    fn demanding_rows(&self, section: u32, ordinary: &[u32]) -> Vec<Row> {
+        let mut rows = Vec::new();
+        for (p, q) in pairs(ordinary) {
+            rows.extend([BEFORE, APART, SAME].map(|kind| Row::new(section, kind, p, q, 0, 0)));
+        }
+        for (p, q) in pairs(&[ordinary, &[START, CLOSE]].concat()) {
+            rows.extend(self.sets.iter().map(|&set| Row::new(section, FREE, p, q, set, 0)));
+            rows.extend(self.limits.iter().map(|&(a, b)| Row::new(section, WITHIN, p, q, a, b)));
+            rows.extend(self.limits.iter().map(|&(a, b)| Row::new(section, OUTSIDE, p, q, a, b)));
+        }
+        for &p in ordinary {
+            rows.extend(self.sets_of_event.iter().map(|&set| Row::new(section, EVENT, p, 0, set, 0)));
+        }
+        rows
     }
-    for (q, a) in pairs(ordinary) {
-        rows.extend([EARLIER, LATER].map(|kind| Row::new(section, kind, p, q, a, 0)));
-    }
-    rows
-}
 
-/// Every row that may come next in a section, after these rows.
-pub fn rows_after(before: &[Row], section: u32) -> Vec<Row> {
-    let mut ordinary = introduced(before, 0);
-    let mut p = ordinary.len() as u32 + 1;
-    if section > 0 {
+    /// Every row of kinds 2 to 5 that introduces p.
+    fn introducing_rows(&self, section: u32, p: u32, ordinary: &[u32]) -> Vec<Row> {
+        let mut rows = Vec::new();
+        for &set in self.sets {
+            rows.extend(ordinary.iter().chain(&[START]).map(|&q| Row::new(section, NEXT, p, q, set, 0)));
+            rows.extend(ordinary.iter().chain(&[CLOSE]).map(|&q| Row::new(section, LAST, p, q, set, 0)));
+        }
+        for (q, a) in pairs(ordinary) {
+            rows.extend([EARLIER, LATER].map(|kind| Row::new(section, kind, p, q, a, 0)));
+        }
+        rows
+    }
+
+    /// Every row that may come next in a section, after these rows.
+    fn rows_after(&self, before: &[Row], section: u32) -> Vec<Row> {
+        let antecedent = introduced(before, 0);
+        if section == 0 {
+            let p = antecedent.len() as u32 + 1;
+            let points = self.sets.iter().map(|&set| point(p, set));
+            return self.demanding_rows(0, &antecedent).into_iter().chain(points).collect();
+        }
         let own = introduced(before, section);
-        p = 10 * section + own.len() as u32 + 1;
-        ordinary.extend(own);
+        let p = 10 * section + own.len() as u32 + 1;
+        let ordinary = [antecedent, own].concat();
+        [self.demanding_rows(section, &ordinary), self.introducing_rows(section, p, &ordinary)].concat()
     }
-    let mut rows = demanding_rows(section, &ordinary);
-    if section == 0 {
-        rows.extend(SETS.map(|set| Row::new(0, POINT, p, 0, set, 0)));
-    } else {
-        rows.extend(introducing_rows(section, p, &ordinary));
+
+    /// Each of these sheets with every row that may come next.
+    fn one_more(&self, sheets: &[Vec<Row>], section: u32) -> Vec<Vec<Row>> {
+        let longer = |rows: &Vec<Row>| {
+            let next = self.rows_after(rows, section).into_iter();
+            next.map(|row| [&rows[..], &[row]].concat()).collect::<Vec<_>>()
+        };
+        sheets.iter().flat_map(longer).collect()
     }
-    rows
+
+    /// Each of these antecedents with every row of kinds 6 to 12 that may come next.
+    fn one_demand(&self, antecedents: &[Vec<Row>]) -> Vec<Vec<Row>> {
+        self.one_more(antecedents, 0).into_iter().filter(|rows| rows[rows.len() - 1].kind != POINT).collect()
+    }
 }
 
-fn one_more(sheets: &[Vec<Row>], section: u32) -> Vec<Vec<Row>> {
-    let longer =
-        |rows: &Vec<Row>| rows_after(rows, section).into_iter().map(|row| [&rows[..], &[row]].concat()).collect::<Vec<_>>();
-    sheets.iter().flat_map(longer).collect()
+/// The family that is small enough to be compared whole each time: every kind in antecedent and consequent.
+pub fn small() -> Vec<Family> {
+    let none = vec![vec![]];
+    let one_row = FEW.one_more(&none, 0);
+    let one_point = vec![vec![point(1, 1)]];
+    let two_points = vec![vec![point(1, 1), point(2, 1)]];
+    let (demand, demand_on_two) = (FEW.one_demand(&one_point), FEW.one_demand(&two_points));
+    let in_order = demand_on_two.iter().filter(|rows| rows[2].kind <= SAME).cloned().collect();
+    let bare = [none.clone(), one_point].concat();
+    let one = FEW.one_more(&bare, 1);
+    vec![
+        Family::new("antecedents of up to two rows", 0, &[none, one_row.clone(), FEW.one_more(&one_row, 0)].concat()),
+        Family::new("two points and a demand", 0, &demand_on_two),
+        Family::new("a consequent of up to two rows", 1, &[bare.clone(), one.clone(), FEW.one_more(&one, 1)].concat()),
+        Family::new("two points and a consequent of one row", 1, &FEW.one_more(&two_points, 1)),
+        Family::new("an antecedent with a demand and a consequent of one row", 1, &FEW.one_more(&[demand, in_order].concat(), 1)),
+        Family::new("two consequents, one empty", 2, &[one.clone(), FEW.one_more(&bare, 2)].concat()),
+        Family::new("two consequents of one row", 2, &FEW.one_more(&one, 2)),
+    ]
 }
 
-/// The antecedents of the families: none, one point, two points.
-fn antecedents() -> Vec<Vec<Row>> {
-    let point = |p, set| Row::new(0, POINT, p, 0, set, 0);
-    vec![vec![], vec![point(1, 1)], vec![point(1, 3)], vec![point(1, 1), point(2, 2)], vec![point(1, 3), point(2, 1)]]
-}
-
-/// Every sheet without consequents and with up to two rows.
-pub fn without_consequents() -> Vec<Vec<u8>> {
-    let one = one_more(&[vec![]], 0);
-    let two = one_more(&one, 0);
-    [vec![vec![]], one, two].concat().iter().map(|rows| sheet::text(0, rows)).collect()
-}
-
-/// Every sheet with one of the antecedents and a consequent of up to two rows.
-pub fn one_consequent() -> Vec<Vec<u8>> {
-    let none = antecedents();
-    let one = one_more(&none, 1);
-    let two = one_more(&one, 1);
-    [none, one, two].concat().iter().map(|rows| sheet::text(1, rows)).collect()
-}
-
-/// Every sheet with one of the antecedents of up to one point and two consequents of one row each.
-pub fn two_consequents() -> Vec<Vec<u8>> {
-    let first = one_more(&antecedents()[..2], 1);
-    one_more(&first, 2).iter().map(|rows| sheet::text(2, rows)).collect()
+/// The larger families, compared in part each time and whole when asked.
+pub fn large() -> Vec<Family> {
+    let none = vec![vec![]];
+    let one_row = MORE.one_more(&none, 0);
+    let one_point = [vec![point(1, 1)], vec![point(1, 3)]];
+    let two_points = [vec![point(1, 1), point(2, 2)], vec![point(1, 3), point(2, 1)]];
+    let antecedents = [&none[..], &one_point, &two_points].concat();
+    let one = MORE.one_more(&antecedents, 1);
+    let first = MORE.one_more(&antecedents[..2], 1);
+    vec![
+        Family::new("no consequents", 0, &[none, one_row.clone(), MORE.one_more(&one_row, 0)].concat()),
+        Family::new("one consequent of up to two rows", 1, &[antecedents, one.clone(), MORE.one_more(&one, 1)].concat()),
+        Family::new("two consequents of one row", 2, &MORE.one_more(&first, 2)),
+    ]
 }

@@ -40,12 +40,23 @@ pub fn random(random: &mut Random, most: u32) -> Log {
 pub fn of_length(random: &mut Random, n: u32) -> Log {
     let kinds = random.from_to(1, 4) as usize;
     let events: Vec<u32> = (0..kinds).map(|_| random.pick(&EVENTS)).collect();
+    with_events(random, n, &events)
+}
+
+/// A log of exactly so many lines, of which all but a few have the same event.
+pub fn with_rare_events(random: &mut Random, n: u32) -> Log {
+    let mut events = vec![random.pick(&EVENTS); 300];
+    events.extend([1, 2, 3].map(|_| random.pick(&EVENTS)));
+    with_events(random, n, &events)
+}
+
+fn with_events(random: &mut Random, n: u32, events: &[u32]) -> Log {
     let start = first_tick(random);
     let mut tick = start;
     let mut lines = Vec::new();
     for _ in 0..n {
         tick = step(random, tick);
-        lines.push(Line { tick, event: random.pick(&events) });
+        lines.push(Line { tick, event: random.pick(events) });
     }
     let close = if random.one_in(9) { u32::MAX } else { step(random, tick) };
     Log { start, close, lines, blunder: Blunder::None }

@@ -1,4 +1,5 @@
 //! Sheets and logs for the tests: random, enumerated, damaged at random, and damaged for each refusal.
+pub mod arguments;
 pub mod damage;
 pub mod families;
 pub mod logs;

@@ -17,6 +17,14 @@ enum Wanted {
     HoldsByConsequents,
 }
 
+fn any_wanted(random: &mut Random) -> Wanted {
+    match random.below(6) {
+        0 => Wanted::Anything,
+        1..=3 => Wanted::AntecedentMatched,
+        _ => Wanted::HoldsByConsequents,
+    }
+}
+
 fn is_as_wanted(wanted: Wanted, sheet: &Sheet, log: &Log) -> bool {
     let matched = || weeded::smallest(&sheet.section(0), log).is_some();
     match wanted {
@@ -38,7 +46,7 @@ fn sheet_for(random: &mut Random, shape: &sheets::Shape, wanted: Wanted, log: &L
     text
 }
 
-/// Mostly small and accepted, some larger, some damaged.
+/// Mostly small and accepted, some larger, some with a long section, some damaged.
 pub fn pair_of(seed: u64) -> Pair {
     let mut random = Random::new(seed);
     let (shape, most_lines) = match random.below(10) {
@@ -46,14 +54,13 @@ pub fn pair_of(seed: u64) -> Pair {
         6..=8 => (&sheets::MIDDLE, 5),
         _ => (&sheets::LARGE, 6),
     };
-    let wanted = match random.below(6) {
-        0 => Wanted::Anything,
-        1..=3 => Wanted::AntecedentMatched,
-        _ => Wanted::HoldsByConsequents,
-    };
+    let wanted = any_wanted(&mut random);
     let log = logs::random(&mut random, most_lines);
     let mut sheet = sheet_for(&mut random, shape, wanted, &log);
     let mut log = log.text();
+    if random.one_in(40) {
+        damage::repeat_row(&mut random, &mut sheet);
+    }
     if random.one_in(6) {
         damaged(&mut random, &mut sheet, &damage::SHEET);
     }
@@ -61,6 +68,20 @@ pub fn pair_of(seed: u64) -> Pair {
         damaged(&mut random, &mut log, &damage::LOG);
     }
     Pair { sheet, log }
+}
+
+/// An accepted sheet of few antiscenarios, and a log of hundreds or thousands of lines.
+pub fn long_pair_of(seed: u64) -> Pair {
+    let mut random = Random::new(seed);
+    let (shape, most_lines) = match random.below(4) {
+        0 => (&sheets::TWO_POINTS, 600),
+        1 => (&sheets::TWO_CONSEQUENTS, 600),
+        _ => (&sheets::NARROW, 4000),
+    };
+    let n = if random.one_in(4) { most_lines } else { random.from_to(500, most_lines) };
+    let log = if random.one_in(2) { logs::of_length(&mut random, n) } else { logs::with_rare_events(&mut random, n) };
+    let wanted = any_wanted(&mut random);
+    Pair { sheet: sheet_for(&mut random, shape, wanted, &log), log: log.text() }
 }
 
 fn damaged(random: &mut Random, text: &mut Vec<u8>, columns: &damage::Columns) {

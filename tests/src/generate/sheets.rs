@@ -7,21 +7,50 @@ use crate::reference::sheet::{self, kind::*, Row, CLOSE, START};
 pub struct Shape {
     pub antecedent_points: u32,
     pub antecedent_rows: u32,
+    pub fewest_consequents: u32,
     pub consequents: u32,
     pub consequent_points: u32,
     pub consequent_rows: u32,
 }
 
-pub const SMALL: Shape =
-    Shape { antecedent_points: 2, antecedent_rows: 1, consequents: 2, consequent_points: 2, consequent_rows: 2 };
-pub const MIDDLE: Shape =
-    Shape { antecedent_points: 3, antecedent_rows: 3, consequents: 3, consequent_points: 3, consequent_rows: 3 };
-pub const LARGE: Shape =
-    Shape { antecedent_points: 4, antecedent_rows: 8, consequents: 6, consequent_points: 8, consequent_rows: 4 };
+pub const SMALL: Shape = Shape {
+    antecedent_points: 2,
+    antecedent_rows: 1,
+    fewest_consequents: 0,
+    consequents: 2,
+    consequent_points: 2,
+    consequent_rows: 2,
+};
+pub const MIDDLE: Shape = Shape {
+    antecedent_points: 3,
+    antecedent_rows: 3,
+    fewest_consequents: 0,
+    consequents: 3,
+    consequent_points: 3,
+    consequent_rows: 3,
+};
+pub const LARGE: Shape = Shape {
+    antecedent_points: 4,
+    antecedent_rows: 8,
+    fewest_consequents: 0,
+    consequents: 6,
+    consequent_points: 8,
+    consequent_rows: 4,
+};
 
 /// Sheets whose antiscenarios place at most two points freely, for logs of thousands of lines.
-pub const NARROW: Shape =
-    Shape { antecedent_points: 1, antecedent_rows: 1, consequents: 1, consequent_points: 3, consequent_rows: 2 };
+pub const NARROW: Shape = Shape {
+    antecedent_points: 1,
+    antecedent_rows: 1,
+    fewest_consequents: 1,
+    consequents: 1,
+    consequent_points: 3,
+    consequent_rows: 2,
+};
+
+/// Sheets whose antiscenarios place at most three points freely, for logs of hundreds of lines.
+pub const TWO_POINTS: Shape = Shape { antecedent_points: 2, antecedent_rows: 2, ..NARROW };
+pub const TWO_CONSEQUENTS: Shape = Shape { consequents: 2, consequent_points: 2, ..NARROW };
 
 /// Sheet S of document 01.
 pub fn sheet_s() -> Vec<u8> {
@@ -32,6 +61,20 @@ pub fn sheet_s() -> Vec<u8> {
         Row::new(1, FREE, 11, 1, 2, 0),
     ];
     sheet::text(1, &rows)
+}
+
+/// Four antecedent points, and in each consequent eight points that the last row needs all, denied by FREE: 58 points, 98 rows.
+/// Number 1 matches an injection between two scans.
+pub fn largest() -> Vec<u8> {
+    let mut rows: Vec<Row> = (1..=4).map(|p| Row::new(0, POINT, p, 0, 8, 0)).collect();
+    rows.extend(vec![Row::new(0, BEFORE, 1, 2, 0, 0); 28]);
+    for section in 1..=6 {
+        let ten = 10 * section;
+        rows.push(Row::new(section, EARLIER, ten + 1, 1, 2, 0));
+        rows.extend((2..=8).map(|index| Row::new(section, EARLIER, ten + index, ten + index - 1, 1, 0)));
+        rows.push(Row::new(section, FREE, ten + 8, 2, 2, 0));
+    }
+    sheet::text(6, &rows)
 }
 
 fn bit(event: u32) -> u32 {
@@ -162,7 +205,7 @@ pub fn random(random: &mut Random, shape: &Shape) -> Vec<u8> {
 }
 
 pub fn random_rows(random: &mut Random, shape: &Shape) -> (u32, Vec<Row>) {
-    let k = random.from_to(0, shape.consequents);
+    let k = random.from_to(shape.fewest_consequents, shape.consequents);
     let mut rows = antecedent(random, shape);
     let points = sheet::introduced(&rows, 0);
     for section in 1..=k {

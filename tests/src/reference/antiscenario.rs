@@ -3,6 +3,9 @@ use super::blunder::Blunder;
 use super::rows::points;
 use super::sheet::{is_end, kind::*, Row, Sheet, CLOSE, START};
 
+/// Document 01: a denial; the introducing rows that it brings, then its own.
+pub type Denial = Vec<Row>;
+
 /// The points that a row needs: those it speaks of, without the one it introduces.
 fn needs(row: &Row) -> Vec<u32> {
     match row.kind {
@@ -75,7 +78,7 @@ fn denying_rows(row: &Row, blunder: Blunder) -> Vec<Vec<Row>> {
 }
 
 /// Document 01: the denials of a consequent, rows in sheet order.
-pub fn denials(sheet: &Sheet, section: u32) -> Vec<Vec<Row>> {
+pub fn denials(sheet: &Sheet, section: u32) -> Vec<Denial> {
     let rows = sheet.section(section);
     let mut denials = Vec::new();
     for (index, row) in rows.iter().enumerate() {
@@ -93,17 +96,16 @@ pub fn count(sheet: &Sheet) -> u64 {
     if sheet.k == 0 && sheet.blunder == Blunder::NoneWithoutConsequents {
         return 0;
     }
-    (1..=sheet.k).map(|section| denials(sheet, section).len() as u64).product()
+    sheet.denials.iter().map(|denials| denials.len() as u64).product()
 }
 
 /// Document 01: antiscenario number m, of 1 to N.
 pub fn antiscenario(sheet: &Sheet, m: u64) -> Vec<Row> {
     let mut rest = m - 1;
-    let mut chosen = Vec::new();
+    let mut chosen: Vec<&Denial> = Vec::new();
     // The last consequent's choice moves fastest, so it is taken off first.
-    for section in (1..=sheet.k).rev() {
-        let denials = denials(sheet, section);
-        chosen.push(denials[(rest % denials.len() as u64) as usize].clone());
+    for denials in sheet.denials.iter().rev() {
+        chosen.push(&denials[(rest % denials.len() as u64) as usize]);
         rest /= denials.len() as u64;
     }
     let mut rows = sheet.section(0);

@@ -1,15 +1,11 @@
-//! The reference alone on the examples of document 01, and its two searches against each other.
-use super::antiscenario;
+//! The reference alone on the examples of document 01.
 use super::blunder::Blunder;
 use super::log::{self, Line, Log};
-use super::operations::{open, smallest_by_brute_force, verdict, violating, Opened, Verdict};
+use super::operations::{open, Opened, Verdict};
 use super::refusal::Refusal;
-use super::rows::{matchings, placement_count, points};
 use super::sheet::{self, Row};
-use super::weeded;
-use crate::generate::logs::{self, log_of};
-use crate::generate::sheets::{self, sheet_s};
-use crate::random::Random;
+use crate::generate::logs::log_of;
+use crate::generate::sheets::sheet_s;
 
 fn pair(sheet_text: &[u8], lines: &[(u32, u32)]) -> Opened {
     open(sheet_text, &log_of(lines).text(), Blunder::None)
@@ -83,40 +79,4 @@ fn logs_refused_and_accepted() {
     assert_eq!(log::read(&event.text(), Blunder::None).unwrap_err().refusal, Refusal::Event);
     assert_eq!(log::read(&log_of(&vec![(1, 1); 4001]).text(), Blunder::None).unwrap_err().refusal, Refusal::LineCount);
     assert!(log::read(&log_of(&vec![(1, 1); 4000]).text(), Blunder::None).is_ok());
-}
-
-#[test]
-fn brute_force_and_weeding_agree() {
-    let mut random = Random::new(11);
-    let mut compared = 0;
-    while compared < 3000 {
-        let sheet_text = sheets::random(&mut random, &sheets::SMALL);
-        let log = logs::random(&mut random, 4);
-        let Ok(sheet) = sheet::read(&sheet_text, Blunder::None) else { continue };
-        let expected = match violating(&sheet, &log).first() {
-            None => Verdict::Holds,
-            Some(placement) => Verdict::Violated { placement: placement.clone(), rows: rows_of(verdict(&sheet, &log)) },
-        };
-        assert_eq!(verdict(&sheet, &log), expected);
-        for m in 1..=sheet.count.min(5) {
-            let rows = antiscenario::antiscenario(&sheet, m);
-            if placement_count(&log, points(&rows).len(), 3000) < 3000 {
-                let mut weeded = Vec::new();
-                weeded::visit(&rows, &log, &mut |positions| {
-                    weeded.push(positions.to_vec());
-                    false
-                });
-                assert_eq!(weeded, matchings(&rows, &log));
-                assert_eq!(weeded::smallest(&rows, &log), smallest_by_brute_force(&rows, &log));
-                compared += 1;
-            }
-        }
-    }
-}
-
-fn rows_of(verdict: Verdict) -> Vec<u32> {
-    match verdict {
-        Verdict::Holds => panic!("a placement violates and the verdict holds"),
-        Verdict::Violated { rows, .. } => rows,
-    }
 }

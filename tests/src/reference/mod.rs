@@ -2,6 +2,7 @@
 pub mod antiscenario;
 pub mod blunder;
 pub mod columns;
+pub mod cut;
 pub mod log;
 pub mod operations;
 pub mod refusal;
@@ -9,6 +10,8 @@ pub mod rows;
 pub mod sheet;
 pub mod weeded;
 
+#[cfg(test)]
+mod brute_force;
 #[cfg(test)]
 mod examples;
 #[cfg(test)]

@@ -1,5 +1,5 @@
 //! Document 01: a sheet, and its reading with refusals 1 to 11.
-use super::antiscenario;
+use super::antiscenario::{self, Denial};
 use super::blunder::Blunder;
 use super::columns::{read_line, spell_line};
 use super::refusal::{Fault, Part, Refusal};
@@ -37,7 +37,7 @@ pub mod kind {
 }
 use kind::*;
 
-#[derive(Clone, Copy, Debug, PartialEq, Eq)]
+#[derive(Clone, Copy, Debug, PartialEq, Eq, Hash)]
 pub struct Row {
     pub section: u32,
     pub kind: u32,
@@ -65,6 +65,8 @@ impl Row {
 pub struct Sheet {
     pub k: u32,
     pub rows: Vec<Row>,
+    /// The denials of consequents 1 to k.
+    pub denials: Vec<Vec<Denial>>,
     /// N, the number of antiscenarios.
     pub count: u64,
     pub blunder: Blunder,
@@ -194,7 +196,8 @@ pub fn read(text: &[u8], blunder: Blunder) -> Result<Sheet, Fault> {
         let part = Part { of_log: false, offset: FIRST_LINE + ROW * index, length: ROW };
         rows.push(read_row(line, k, &rows).map_err(|refusal| Fault { refusal, part })?);
     }
-    let mut sheet = Sheet { k, rows, count: 0, blunder };
+    let mut sheet = Sheet { k, rows, denials: Vec::new(), count: 0, blunder };
+    sheet.denials = (1..=k).map(|section| antiscenario::denials(&sheet, section)).collect();
     sheet.count = antiscenario::count(&sheet);
     if sheet.count > MOST_ANTISCENARIOS {
         return Err(first_line_fault(Refusal::TooManyAntiscenarios, text));

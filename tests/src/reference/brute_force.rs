@@ -1,0 +1,86 @@
+//! The reference's faster ways against brute force, which tries every placement.
+use super::antiscenario::antiscenario;
+use super::blunder::Blunder;
+use super::cut::CutDown;
+use super::log::Log;
+use super::operations::{smallest_by_brute_force, verdict, violating, Verdict};
+use super::rows::{matchings, placement_count, points};
+use super::sheet::{self, Row, Sheet};
+use super::weeded;
+use crate::generate::{logs, sheets};
+use crate::random::Random;
+
+const MOST_PLACEMENTS: u64 = 4000;
+
+/// Random sheets and logs whose placements, of the antecedent with a consequent and of each of the first antiscenarios, can all be tried.
+fn few_placements(seed: u64, pairs: usize) -> Vec<(Sheet, Log)> {
+    let mut random = Random::new(seed);
+    let mut all = Vec::new();
+    while all.len() < pairs {
+        let shape = random.pick(&[&sheets::SMALL, &sheets::MIDDLE]);
+        let sheet_text = sheets::random(&mut random, shape);
+        let most_lines = random.pick(&[6, 6, 60]);
+        let log = logs::random(&mut random, most_lines);
+        let Ok(sheet) = sheet::read(&sheet_text, Blunder::None) else { continue };
+        let few = |rows: &[Row]| placement_count(&log, points(rows).len(), MOST_PLACEMENTS) < MOST_PLACEMENTS;
+        let consequents = (1..=sheet.k).all(|section| few(&[sheet.section(0), sheet.section(section)].concat()));
+        if consequents && first_antiscenarios(&sheet).iter().all(|rows| few(rows)) {
+            all.push((sheet, log));
+        }
+    }
+    all
+}
+
+fn first_antiscenarios(sheet: &Sheet) -> Vec<Vec<Row>> {
+    (1..=sheet.count.min(6)).map(|m| antiscenario(sheet, m)).collect()
+}
+
+#[test]
+fn weeding_finds_what_brute_force_finds() {
+    for (sheet, log) in few_placements(11, 3000) {
+        for rows in first_antiscenarios(&sheet) {
+            let mut weeded = Vec::new();
+            weeded::visit(&rows, &log, &mut |positions| {
+                weeded.push(positions.to_vec());
+                false
+            });
+            assert_eq!(weeded, matchings(&rows, &log));
+            assert_eq!(weeded::smallest(&rows, &log), smallest_by_brute_force(&rows, &log));
+        }
+    }
+}
+
+#[test]
+fn consequents_by_themselves_cut_down_as_brute_force_does() {
+    for (sheet, log) in few_placements(12, 3000) {
+        let mut cut_down = CutDown::new(&sheet, &log);
+        assert_eq!(cut_down.fronts, matchings(&sheet.section(0), &log));
+        for rows in first_antiscenarios(&sheet) {
+            let by_section = cut_down.by_section(&rows);
+            assert_eq!(by_section, cut_down.written_out(&rows));
+        }
+    }
+}
+
+/// The first row of a consequent up to which no matching has this front, numbered over the whole sheet.
+fn row_at_fault(sheet: &Sheet, log: &Log, section: u32, front: &[u32]) -> Option<u32> {
+    let antecedent = sheet.section(0);
+    let before = sheet.rows.iter().filter(|row| row.section < section).count();
+    let rows = sheet.section(section);
+    let extends =
+        |count| matchings(&[&antecedent, &rows[..count]].concat(), log).iter().any(|matching| matching.starts_with(front));
+    (1..=rows.len()).find(|&count| !extends(count)).map(|count| (before + count) as u32)
+}
+
+#[test]
+fn verdicts_are_those_of_brute_force() {
+    for (sheet, log) in few_placements(13, 1500) {
+        let violated = |front: Vec<u32>| {
+            let rows: Option<Vec<u32>> = (1..=sheet.k).map(|section| row_at_fault(&sheet, &log, section, &front)).collect();
+            Some(Verdict::Violated { rows: rows?, placement: front })
+        };
+        let all: Vec<Verdict> = matchings(&sheet.section(0), &log).into_iter().filter_map(violated).collect();
+        assert_eq!(violating(&sheet, &log).len(), all.len());
+        assert_eq!(verdict(&sheet, &log), all.into_iter().next().unwrap_or(Verdict::Holds));
+    }
+}
