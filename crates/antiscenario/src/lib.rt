@@ -6,7 +6,7 @@ ghost use lib.ListN.{length, getD, set, take, drop};
 ghost use lib.Dec.{eqb};
 ghost use Rattle.sheet.specs.Row.{six};
 ghost use Rattle.sheet.specs.Memory.{put, lay, lineIn, linesIn, weight, weightFree, weighLine, product};
-ghost use Rattle.sheet.specs.Text.{rowText, rowsText, headText, sheetText};
+ghost use Rattle.sheet.specs.Text.{Fits, rowText, rowsText, headText, sheetText};
 ghost use Rattle.antiscenario.specs.Write.{inked, noText, writeOf, afterWrite};
 ghost use Rattle.antiscenario.specs.Judge.{refusalOf, Ready, unjudged as unjudgedOf, judgeOf};
 ghost use Rattle.scenario.specs.Reading.{All};
@@ -322,9 +322,9 @@ pub fn build(rows: &[u32], n: usize, k: u32, count: u64, j: u64, out: &mut [u32]
     at
 }
 
-// Writes a row's line from index at on.
+// Writes a row's line from index at on. Its numbers fit their columns.
 fn write_row(buf: &mut [u8], at: usize, line: sheet::Line)
-    requires { ⌜ (at + 35 ≤ length (now buf)) × (at ≤ 100000) ⌝ }
+    requires { ⌜ (at + 35 ≤ length (now buf)) × (at ≤ 100000) × Fits line ⌝ }
     ensures { λ _. ⌜ now (buf .exit) ≡ inked at (rowText line) (now (buf .entry)) ⌝ }
 {
     columns::write_number(buf, at, 3, line.section);
@@ -336,9 +336,9 @@ fn write_row(buf: &mut [u8], at: usize, line: sheet::Line)
     buf[at + 34] = 10;
 }
 
-// Writes the first line.
+// Writes the first line. Both numbers fit their columns.
 fn write_head(buf: &mut [u8], k: u32, n: u32)
-    requires { ⌜ 7 ≤ length (now buf) ⌝ }
+    requires { ⌜ (7 ≤ length (now buf)) × (k < 1000) × (n < 1000) ⌝ }
     ensures { λ _. ⌜ now (buf .exit) ≡ inked 0 (headText k n) (now (buf .entry)) ⌝ }
 {
     columns::write_number(buf, 0, 3, k);
@@ -346,9 +346,9 @@ fn write_head(buf: &mut [u8], k: u32, n: u32)
     buf[6] = 10;
 }
 
-// Writes the lines of n rows in memory, from index 7 on.
+// Writes the lines of n rows in memory, whose numbers fit, from index 7 on.
 fn write_rows(buf: &mut [u8], rows: &[u32], n: usize)
-    requires { ⌜ (7 + 35 * n ≤ length (now buf)) × (n ≤ 200) × (6 * n ≤ length (now rows)) ⌝ }
+    requires { ⌜ (7 + 35 * n ≤ length (now buf)) × (n ≤ 200) × (6 * n ≤ length (now rows)) × All Fits (linesIn (now rows) 0 n) ⌝ }
     ensures { λ _. ⌜ now (buf .exit) ≡ inked 7 (rowsText (linesIn (now (rows .entry)) 0 n)) (now (buf .entry)) ⌝ }
 {
     let mut i: usize = 0;
@@ -358,9 +358,9 @@ fn write_rows(buf: &mut [u8], rows: &[u32], n: usize)
     }
 }
 
-// Writes the text of n rows in memory.
+// Writes the text of n rows in memory, whose numbers fit, and so does k.
 fn write_text(buf: &mut [u8], k: u32, rows: &[u32], n: usize)
-    requires { ⌜ (7 + 35 * n ≤ length (now buf)) × (n ≤ 200) × (6 * n ≤ length (now rows)) ⌝ }
+    requires { ⌜ (7 + 35 * n ≤ length (now buf)) × (n ≤ 200) × (6 * n ≤ length (now rows)) × (k < 1000) × All Fits (linesIn (now rows) 0 n) ⌝ }
     ensures { λ _. ⌜ now (buf .exit) ≡ sheetText k (linesIn (now (rows .entry)) 0 n) ++ drop (7 + 35 * n) (now (buf .entry)) ⌝ }
 {
     write_head(buf, k, n as u32);

@@ -1,5 +1,6 @@
 // Numbers in columns: the reader of a field of any width, and the writer.
 ghost use mathlib.Core.Path.{_≡_};
+ghost use mathlib.Core.Bool.{true};
 ghost use mathlib.Core.List.{_++_};
 ghost use Prim.Native.Nat.{_+_, _≤_};
 ghost use lib.ListN.{length, take, drop};
@@ -122,9 +123,10 @@ pub fn fits_in(width: usize, v: u32) -> bool
     rest == 0
 }
 
-// Writes v into the field of `width` columns from index `at` on, from its last column to its first. The field is in the buffer.
+// Writes v into the field of `width` columns from index `at` on, from its last column to its first. v has a spelling in so many columns, and
+// the field is in the buffer: a number that does not fit cannot be asked for.
 pub fn write_number(buf: &mut [u8], at: usize, width: usize, v: u32)
-    requires { ⌜ (1 ≤ width) × (at + width ≤ length (now buf)) ⌝ }
+    requires { ⌜ (fitsIn width v ≡ true) × (at + width ≤ length (now buf)) ⌝ }
     ensures { λ _. ⌜ now (buf .exit) ≡ take at (now (buf .entry)) ++ (spell width v ++ drop (at + width) (now (buf .entry))) ⌝ }
 {
     let mut i = width - 1;
