@@ -14,8 +14,10 @@ const ZERO: u8 = 48;
 
 const NINE: u8 = 57;
 
-// The largest number that a field holds, at every width.
+// The largest number that a field holds, at every width, and how many digits it has.
 const LARGEST: u64 = 4294967295;
+
+const MOST_DIGITS: usize = 10;
 
 // What a field holds: a number, or bytes that are not well formed.
 pub enum Field {
@@ -43,11 +45,14 @@ fn spaces(s: &[u8]) -> usize
     i
 }
 
-// The whole of s as a numeral.
+// The whole of s as a numeral. So few digits fit 64 bits, and LARGEST is asked about once; more have a leading zero or are over it.
 fn digits(s: &[u8]) -> Field
     ensures { λ r. ⌜ r ≡ numeral (now (s .entry)) ⌝ }
 {
     if s.len() == 0 {
+        return Field::Bad;
+    }
+    if MOST_DIGITS < s.len() {
         return Field::Bad;
     }
     if s[0] == ZERO {
@@ -55,7 +60,7 @@ fn digits(s: &[u8]) -> Field
             return Field::Bad;
         }
     }
-    let mut v: u32 = 0;
+    let mut v: u64 = 0;
     let mut i: usize = 0;
     while i < s.len() {
         let b = s[i];
@@ -65,14 +70,13 @@ fn digits(s: &[u8]) -> Field
         if NINE < b {
             return Field::Bad;
         }
-        let next = v as u64 * 10 + (b - ZERO) as u64;
-        if LARGEST < next {
-            return Field::Bad;
-        }
-        v = next as u32;
+        v = v * 10 + (b as u64 - ZERO as u64);
         i += 1;
     }
-    Field::Value(v)
+    if LARGEST < v {
+        return Field::Bad;
+    }
+    Field::Value(v as u32)
 }
 
 // The number in the first `width` bytes of s; what stands after them is not looked at.
