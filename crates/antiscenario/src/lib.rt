@@ -1,5 +1,6 @@
 // Antiscenario m: its rows in memory, its text, and whether a placement is a matching of it.
 ghost use mathlib.Core.Path.{_≡_};
+ghost use mathlib.Core.Bool.{true};
 ghost use mathlib.Core.List.{List, [], _∷_, _++_};
 ghost use Prim.Native.Nat.{ℕ, _+_, _*_, _-_, _≤_, _<_};
 ghost use lib.ListN.{length, getD, set, take, drop};
@@ -132,6 +133,22 @@ fn is_wanted(marks: &[u32], section: u32, line: sheet::Line) -> bool
     is_marked(marks, line.p)
 }
 
+// How many of the first i rows there are up to the last of the section that introduces a marked point; 0 where there is none.
+fn last_wanted(rows: &[u32], i: usize, section: u32, marks: &[u32]) -> usize
+    requires { ⌜ 6 * i ≤ length (now rows) ⌝ }
+    ensures same { λ r. ⌜ (r ≤ i) × (brought (now (rows .entry)) section (now (marks .entry)) r ≡ brought (now (rows .entry)) section (now (marks .entry)) i) ⌝ }
+    ensures last { λ r. ⌜ (0 < r → wanted (now (marks .entry)) section (lineIn (now (rows .entry)) (r - 1)) ≡ true) ⌝ }
+{
+    let mut left = i;
+    while 0 < left {
+        if is_wanted(marks, section, row_in(rows, left - 1)) {
+            return left;
+        }
+        left -= 1;
+    }
+    0
+}
+
 // Stores, of the first i rows, those of the section that introduce marked points, and the points that these need in turn; gives where they end.
 fn bring(
     rows: &[u32],
@@ -145,15 +162,13 @@ fn bring(
     ensures ends { λ r. ⌜ r ≡ at + length (brought (now (rows .entry)) section (now (marks .entry)) i) ⌝ }
     ensures memory { λ r. ⌜ now (out .exit) ≡ lay at (brought (now (rows .entry)) section (now (marks .entry)) i) (now (out .entry)) ⌝ }
 {
-    if i == 0 {
+    let left = last_wanted(rows, i, section, marks);
+    if left == 0 {
         return at;
     }
-    let line = row_in(rows, i - 1);
-    if !is_wanted(marks, section, line) {
-        return bring(rows, i - 1, section, marks, out, at);
-    }
+    let line = row_in(rows, left - 1);
     mark_uses(marks, line);
-    let end = bring(rows, i - 1, section, marks, out, at);
+    let end = bring(rows, left - 1, section, marks, out, at);
     put_row(out, end, line);
     end + 1
 }
