@@ -11,8 +11,10 @@ use lib.Seq.{length-take-le}
 use lib.Dec.{eqb, leb, ltb, lit<}
 use borrow.Author.Tests.{leb-true}
 use Rattle.columns.specs.Number.{fieldAt, numeral, scan, afterSpaces, allDigits, decimal, wellLed}
+use Rattle.columns.specs.Spell.{fitsIn}
 use Rattle.columns.specs.declared.Field.{Field}
 use Rattle.columns.specs.declared.Field.the-variants.{Value, Bad}
+use Rattle.columns.proofs.Fits.{parts-fit}
 use Rattle.scenario.specs.Rows.{Row, point, next, last, earlier, later, before, apart, same, free, within, outside, event, denying-rows, denying-free, End, start, close, inner, end, far-end, complement}
 use Rattle.scenario.specs.Fields.{Fields, fields}
 use Rattle.scenario.specs.Reading.{All}
@@ -22,11 +24,21 @@ use Rattle.sheet.specs.declared.Parsed.{Parsed}
 use Rattle.sheet.specs.declared.Parsed.the-variants.{Row as Parsed·row, Malformed}
 use Rattle.sheet.specs.declared.Stand.{Stand}
 use Rattle.sheet.specs.Row.{six, onField, lineOf, refusal, start as begin}
-use Rattle.sheet.specs.Reading.{headOf, Taken, onLine, after, rowBytes, rowsFrom, rowIn, taken}
-use Rattle.sheet.specs.Memory.{lineIn, linesIn, weighLine, product}
-use Rattle.sheet.proofs.Texts.{Fits}
+use Rattle.sheet.specs.Reading.{headOf, Taken, onLine, after, rowBytes, rowsFrom, rowIn, taken, answer}
+use Rattle.sheet.specs.Memory.{lay, lineIn, linesIn, weighLine, product}
+use Rattle.sheet.specs.Text.{Fits}
 use Rattle.antiscenario.specs.Build.{lineFrom, uses, marked, wanted, brought, own, denied, denialFrom, chosenFrom, ofSection, built}
+use Rattle.antiscenario.specs.Write.{writtenLines}
 use Rattle.antiscenario.proofs.Choice.{Fair}
+use Rattle.antiscenario.proofs.Accept.{at-line, lines-are, all-fair, all-six, built-written}
+
+-- The widths of a sheet's columns
+
+pub three : (v : ℕ) → v < 1000 → fitsIn 3 v ≡ true
+three v h = parts-fit 3 v (omega arith) (omega (arith, h))
+
+pub eleven : (v : ℕ) → v ≤ 4294967295 → fitsIn 11 v ≡ true
+eleven v h = parts-fit 11 v (omega arith) (omega (arith, h))
 
 -- A field's value is below 10 ^ width
 
@@ -255,3 +267,18 @@ module _ (m : List ℕ) (n : ℕ) (plain : (i : ℕ) → i < n → Plain (lineIn
   pub built-fits : (k j : ℕ) → All Fits (built m n k j)
   unfolding built
   built-fits k j = all-append Fits (ofSection 0 (linesIn m 0 n)) (chosenFrom m n 1 k j) (section-fits 0 n 0 (omega arith)) (chosen-fits k 1 j)
+
+plain-lines : (ls : List Line) → All Fits ls → All Fair ls → All (λ (l : Line). l .section ≤ 6) ls → All Plain ls
+plain-lines [] F G S = tt
+plain-lines (l ∷ ls) F G S = (record { fits = F .0; fair = G .0; section = S .0 }, plain-lines ls (F .1) (G .1) (S .1))
+
+-- THE THEOREM, of an accepted sheet: every number of every antiscenario's rows has a spelling in its columns.
+module _ (s : List ℕ) (e : answer s .refusal ≡ 0) (m₀ : List ℕ) (room : 1056 ≤ length m₀) where
+  all-plain : (i : ℕ) → i < answer s .rows → Plain (lineIn (lay 0 (taken s .lines) m₀) i)
+  all-plain i h =
+      at-line Plain (lay 0 (taken s .lines) m₀) (answer s .rows) 0
+      (subst (All Plain) (sym (lines-are s e m₀ room)) (plain-lines (taken s .lines) (taken-fits s) (all-fair s e m₀ room) (all-six s e m₀ room))) i (omega arith) (omega arith)
+
+  pub written-fits : (m : ℕ) → All Fits (writtenLines s m)
+  unfolding writtenLines
+  written-fits m = subst (All Fits) (built-written s e m₀ room m) (built-fits (lay 0 (taken s .lines) m₀) (answer s .rows) all-plain (answer s .k) (m - 1))

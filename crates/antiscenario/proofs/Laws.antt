@@ -67,12 +67,6 @@ module _ (m : List ℕ) (s : ℕ) where
 
 -- one more at the end
 module _ (m : List ℕ) (s : ℕ) (marks : List ℕ) (i at : ℕ) (out : List ℕ) (n : i ≡ 0 → ⊥) where
-  pub bring-skip-end : wanted marks s (lineIn m (i - 1)) ≡ false → at + length (brought m s marks (i - 1)) ≡ at + length (brought m s marks i)
-  bring-skip-end w = ap (λ (l : List Line). at + length l) (sym (brought-skip m s marks i n w))
-
-  pub bring-skip-memory : wanted marks s (lineIn m (i - 1)) ≡ false → lay at (brought m s marks (i - 1)) out ≡ lay at (brought m s marks i) out
-  bring-skip-memory w = ap (λ (l : List Line). lay at l out) (sym (brought-skip m s marks i n w))
-
   pub bring-more-end : wanted marks s (lineIn m (i - 1)) ≡ true → at + length (brought m s (marked marks (uses (lineIn m (i - 1)))) (i - 1)) + 1 ≡ at + length (brought m s marks i)
   bring-more-end w =
       omega (arith, ap length (brought-more m s marks i n w), length-append (brought m s (marked marks (uses (lineIn m (i - 1)))) (i - 1)) (lineIn m (i - 1) ∷ []))
@@ -86,22 +80,20 @@ module _ (m : List ℕ) (s : ℕ) (marks : List ℕ) (i at : ℕ) (out : List �
       ∙ ap (λ (l : List Line). lay at l out) (sym (brought-more m s marks i n w))
 
   module _ (line : Line) (l : line ≡ lineIn m (i - 1)) where
-    pub bring-skips : (end : ℕ) (out' : List ℕ) → wanted marks s line ≡ false → end ≡ at + length (brought m s marks (i - 1)) → out' ≡ lay at (brought m s marks (i - 1)) out
-        → (end ≡ at + length (brought m s marks i)) × (out' ≡ lay at (brought m s marks i) out)
-    bring-skips end out' w e o =
-        let w' : wanted marks s (lineIn m (i - 1)) ≡ false = ap (wanted marks s) (sym l) ∙ w in
-        (e ∙ bring-skip-end w', o ∙ bring-skip-memory w')
-
-    pub bring-adds : (end : ℕ) (marks' out' out'' : List ℕ) → wanted marks s line ≡ true → marks' ≡ marked marks (uses line)
+    pub bring-adds : (end : ℕ) (marks' out' out'' : List ℕ) → wanted marks s (lineIn m (i - 1)) ≡ true → marks' ≡ marked marks (uses line)
         → end ≡ at + length (brought m s marks' (i - 1)) → out' ≡ lay at (brought m s marks' (i - 1)) out → out'' ≡ put end line out'
         → (end + 1 ≡ at + length (brought m s marks i)) × (out'' ≡ lay at (brought m s marks i) out)
     bring-adds end marks' out' out'' w k e o p =
-        let w' : wanted marks s (lineIn m (i - 1)) ≡ true = ap (wanted marks s) (sym l) ∙ w in
         let k' : marks' ≡ marked marks (uses (lineIn m (i - 1))) = k ∙ ap (λ (x : Line). marked marks (uses x)) l in
         let e' : end ≡ at + length (brought m s (marked marks (uses (lineIn m (i - 1)))) (i - 1)) = e ∙ ap (λ (x : List ℕ). at + length (brought m s x (i - 1))) k' in (
-          ap (λ (x : ℕ). x + 1) e' ∙ bring-more-end w',
-          p ∙ rw (e', l, o, k') (bring-more-memory w'),
+          ap (λ (x : ℕ). x + 1) e' ∙ bring-more-end w,
+          p ∙ rw (e', l, o, k') (bring-more-memory w),
         )
+
+-- so many rows that bring the same
+pub bring-same : (m : List ℕ) (s : ℕ) (marks : List ℕ) (j i at : ℕ) (out : List ℕ) → brought m s marks j ≡ brought m s marks i → (end : ℕ) (out' : List ℕ)
+    → (end ≡ at + length (brought m s marks j)) × (out' ≡ lay at (brought m s marks j) out) → (end ≡ at + length (brought m s marks i)) × (out' ≡ lay at (brought m s marks i) out)
+bring-same m s marks j i at out e end out' b = rw e at b
 
 pub bring-zero : (m : List ℕ) (s : ℕ) (marks : List ℕ) (i at : ℕ) (out : List ℕ) → i ≡ 0 → (at ≡ at + length (brought m s marks i)) × (out ≡ lay at (brought m s marks i) out)
 unfolding lay brought

@@ -5,9 +5,9 @@ pub mod Choice
 pub mod Accept
 pub mod Bound
 pub mod Ink
+pub mod Fitting
 pub mod Writing
 pub mod Plainly
-pub mod Fitting
 pub mod Demand
 pub mod InMemory
 pub mod Judging

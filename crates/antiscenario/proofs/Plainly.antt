@@ -14,8 +14,8 @@ use Rattle.scenario.specs.Reading.{All}
 use Rattle.sheet.specs.declared.Line.{Line}
 use Rattle.sheet.specs.Row.{lineOf}
 use Rattle.sheet.specs.Reading.{rowBytes}
-use Rattle.sheet.specs.Text.{rowText, rowsText, headText, sheetText}
-use Rattle.sheet.proofs.Texts.{Fits, row-read, row-only}
+use Rattle.sheet.specs.Text.{Fits, rowText, rowsText, headText, sheetText}
+use Rattle.sheet.proofs.Texts.{row-read, row-only}
 use Rattle.antiscenario.specs.Plain.{RowsAs, ReadsAs}
 use Rattle.antiscenario.proofs.Ink.{row-length, head-length, sheet-length}
 

@@ -7,10 +7,11 @@ use native.Mathlib.Omega.{arith}
 use lib.ListN.{length, drop, replicate, length-replicate}
 use borrow.Author.Tests.{eq-eqb, ne-eqb, le-leb, lt-leb}
 use Rattle.scenario.specs.Sheet.{count}
+use Rattle.scenario.specs.Reading.{All}
 use Rattle.sheet.specs.declared.Answer.{Answer}
 use Rattle.sheet.specs.Reading.{sheetOf, taken, answer}
 use Rattle.sheet.specs.Memory.{lay, linesIn, product}
-use Rattle.sheet.specs.Text.{sheetText}
+use Rattle.sheet.specs.Text.{Fits, sheetText}
 use Rattle.sheet.proofs.Theorems.{AcceptedSheet, accepted-sheet}
 use Rattle.sheet.proofs.Denials.{count-product}
 use Rattle.sheet.proofs.Store.{lines-back}
@@ -20,6 +21,7 @@ use Rattle.antiscenario.proofs.Accept.{lines-are, built-written}
 use Rattle.antiscenario.proofs.Laws.{lay-length}
 use Rattle.antiscenario.proofs.Bound.{built-few}
 use Rattle.antiscenario.proofs.Ink.{sheet-length}
+use Rattle.antiscenario.proofs.Fitting.{written-fits}
 
 -- An accepted sheet, and the rows built from its memory
 module _ (s : List ℕ) (m : ℕ) (r : Answer) (e : r ≡ answer s) (z : r .refusal ≡ 0) where
@@ -59,6 +61,9 @@ module _ (s : List ℕ) (m : ℕ) (r : Answer) (e : r ≡ answer s) (z : r .refu
 
       pub out-is : linesIn out 0 n ≡ writtenLines s m
       out-is = rw (h, built-lines, n-is) (lines-back (writtenLines s m) 0 o₀ (omega (arith, n-is, n-few, big)))
+
+      pub out-fits : All Fits (linesIn out 0 n)
+      out-fits = subst (All Fits) (sym out-is) (written-fits s ok m₀ room m)
 
       text-is : sheetText (r .k) (linesIn out 0 n) ≡ writtenText s m
       unfolding writtenText

@@ -1,12 +1,13 @@
 // Antiscenario m: its rows in memory, its text, and whether a placement is a matching of it.
 ghost use mathlib.Core.Path.{_≡_};
+ghost use mathlib.Core.Bool.{true};
 ghost use mathlib.Core.List.{List, [], _∷_, _++_};
 ghost use Prim.Native.Nat.{ℕ, _+_, _*_, _-_, _≤_, _<_};
 ghost use lib.ListN.{length, getD, set, take, drop};
 ghost use lib.Dec.{eqb};
 ghost use Rattle.sheet.specs.Row.{six};
 ghost use Rattle.sheet.specs.Memory.{put, lay, lineIn, linesIn, weight, weightFree, weighLine, product};
-ghost use Rattle.sheet.specs.Text.{rowText, rowsText, headText, sheetText};
+ghost use Rattle.sheet.specs.Text.{Fits, rowText, rowsText, headText, sheetText};
 ghost use Rattle.antiscenario.specs.Write.{inked, noText, writeOf, afterWrite};
 ghost use Rattle.antiscenario.specs.Judge.{refusalOf, Ready, unjudged as unjudgedOf, judgeOf};
 ghost use Rattle.scenario.specs.Reading.{All};
@@ -132,6 +133,22 @@ fn is_wanted(marks: &[u32], section: u32, line: sheet::Line) -> bool
     is_marked(marks, line.p)
 }
 
+// How many of the first i rows there are up to the last of the section that introduces a marked point; 0 where there is none.
+fn last_wanted(rows: &[u32], i: usize, section: u32, marks: &[u32]) -> usize
+    requires { ⌜ 6 * i ≤ length (now rows) ⌝ }
+    ensures same { λ r. ⌜ (r ≤ i) × (brought (now (rows .entry)) section (now (marks .entry)) r ≡ brought (now (rows .entry)) section (now (marks .entry)) i) ⌝ }
+    ensures last { λ r. ⌜ (0 < r → wanted (now (marks .entry)) section (lineIn (now (rows .entry)) (r - 1)) ≡ true) ⌝ }
+{
+    let mut left = i;
+    while 0 < left {
+        if is_wanted(marks, section, row_in(rows, left - 1)) {
+            return left;
+        }
+        left -= 1;
+    }
+    0
+}
+
 // Stores, of the first i rows, those of the section that introduce marked points, and the points that these need in turn; gives where they end.
 fn bring(
     rows: &[u32],
@@ -145,15 +162,13 @@ fn bring(
     ensures ends { λ r. ⌜ r ≡ at + length (brought (now (rows .entry)) section (now (marks .entry)) i) ⌝ }
     ensures memory { λ r. ⌜ now (out .exit) ≡ lay at (brought (now (rows .entry)) section (now (marks .entry)) i) (now (out .entry)) ⌝ }
 {
-    if i == 0 {
+    let left = last_wanted(rows, i, section, marks);
+    if left == 0 {
         return at;
     }
-    let line = row_in(rows, i - 1);
-    if !is_wanted(marks, section, line) {
-        return bring(rows, i - 1, section, marks, out, at);
-    }
+    let line = row_in(rows, left - 1);
     mark_uses(marks, line);
-    let end = bring(rows, i - 1, section, marks, out, at);
+    let end = bring(rows, left - 1, section, marks, out, at);
     put_row(out, end, line);
     end + 1
 }
@@ -322,9 +337,9 @@ pub fn build(rows: &[u32], n: usize, k: u32, count: u64, j: u64, out: &mut [u32]
     at
 }
 
-// Writes a row's line from index at on.
+// Writes a row's line from index at on. Its numbers fit their columns.
 fn write_row(buf: &mut [u8], at: usize, line: sheet::Line)
-    requires { ⌜ (at + 35 ≤ length (now buf)) × (at ≤ 100000) ⌝ }
+    requires { ⌜ (at + 35 ≤ length (now buf)) × (at ≤ 100000) × Fits line ⌝ }
     ensures { λ _. ⌜ now (buf .exit) ≡ inked at (rowText line) (now (buf .entry)) ⌝ }
 {
     columns::write_number(buf, at, 3, line.section);
@@ -336,9 +351,9 @@ fn write_row(buf: &mut [u8], at: usize, line: sheet::Line)
     buf[at + 34] = 10;
 }
 
-// Writes the first line.
+// Writes the first line. Both numbers fit their columns.
 fn write_head(buf: &mut [u8], k: u32, n: u32)
-    requires { ⌜ 7 ≤ length (now buf) ⌝ }
+    requires { ⌜ (7 ≤ length (now buf)) × (k < 1000) × (n < 1000) ⌝ }
     ensures { λ _. ⌜ now (buf .exit) ≡ inked 0 (headText k n) (now (buf .entry)) ⌝ }
 {
     columns::write_number(buf, 0, 3, k);
@@ -346,9 +361,9 @@ fn write_head(buf: &mut [u8], k: u32, n: u32)
     buf[6] = 10;
 }
 
-// Writes the lines of n rows in memory, from index 7 on.
+// Writes the lines of n rows in memory, whose numbers fit, from index 7 on.
 fn write_rows(buf: &mut [u8], rows: &[u32], n: usize)
-    requires { ⌜ (7 + 35 * n ≤ length (now buf)) × (n ≤ 200) × (6 * n ≤ length (now rows)) ⌝ }
+    requires { ⌜ (7 + 35 * n ≤ length (now buf)) × (n ≤ 200) × (6 * n ≤ length (now rows)) × All Fits (linesIn (now rows) 0 n) ⌝ }
     ensures { λ _. ⌜ now (buf .exit) ≡ inked 7 (rowsText (linesIn (now (rows .entry)) 0 n)) (now (buf .entry)) ⌝ }
 {
     let mut i: usize = 0;
@@ -358,9 +373,9 @@ fn write_rows(buf: &mut [u8], rows: &[u32], n: usize)
     }
 }
 
-// Writes the text of n rows in memory.
+// Writes the text of n rows in memory, whose numbers fit, and so does k.
 fn write_text(buf: &mut [u8], k: u32, rows: &[u32], n: usize)
-    requires { ⌜ (7 + 35 * n ≤ length (now buf)) × (n ≤ 200) × (6 * n ≤ length (now rows)) ⌝ }
+    requires { ⌜ (7 + 35 * n ≤ length (now buf)) × (n ≤ 200) × (6 * n ≤ length (now rows)) × (k < 1000) × All Fits (linesIn (now rows) 0 n) ⌝ }
     ensures { λ _. ⌜ now (buf .exit) ≡ sheetText k (linesIn (now (rows .entry)) 0 n) ++ drop (7 + 35 * n) (now (buf .entry)) ⌝ }
 {
     write_head(buf, k, n as u32);

@@ -8,7 +8,7 @@ use native.Mathlib.Omega.{arith}
 use lib.Dec.{leb, ltb, eqb}
 use borrow.Author.Tests.{lt-ltb, le-ltb, ltb-true, ltb-false, le-leb, lt-leb, leb-true, eqb-true, eqb-false}
 use Rattle.columns.specs.Spell.{fitsIn}
-use Rattle.columns.proofs.Both.{both}
+use Rattle.columns.proofs.Both.{both, pair}
 
 -- a power of ten is not 0
 power : (w : ℕ) → 1 ≤ 10 ^ w
@@ -46,3 +46,8 @@ fits-end (suc w) v h = absurd (omega arith)
 pub fits-parts : (w v : ℕ) → fitsIn w v ≡ true → (1 ≤ w) × (v < 10 ^ w)
 unfolding fitsIn
 fits-parts w v e = let t = both (leb 1 w) (ltb v (10 ^ w)) e in (leb-true 1 w (t .0), ltb-true v (10 ^ w) (t .1))
+
+-- and what is so fits
+pub parts-fit : (w v : ℕ) → 1 ≤ w → v < 10 ^ w → fitsIn w v ≡ true
+unfolding fitsIn
+parts-fit w v h l = pair (leb 1 w) (ltb v (10 ^ w)) (le-leb 1 w h) (lt-ltb v (10 ^ w) l)

@@ -1,5 +1,6 @@
 // Numbers in columns: the reader of a field of any width, and the writer.
 ghost use mathlib.Core.Path.{_≡_};
+ghost use mathlib.Core.Bool.{true};
 ghost use mathlib.Core.List.{_++_};
 ghost use Prim.Native.Nat.{_+_, _≤_};
 ghost use lib.ListN.{length, take, drop};
@@ -13,8 +14,10 @@ const ZERO: u8 = 48;
 
 const NINE: u8 = 57;
 
-// The largest number that a field holds, at every width.
+// The largest number that a field holds, at every width, and how many digits it has.
 const LARGEST: u64 = 4294967295;
+
+const MOST_DIGITS: usize = 10;
 
 // What a field holds: a number, or bytes that are not well formed.
 pub enum Field {
@@ -42,11 +45,14 @@ fn spaces(s: &[u8]) -> usize
     i
 }
 
-// The whole of s as a numeral.
+// The whole of s as a numeral. So few digits fit 64 bits, and LARGEST is asked about once; more have a leading zero or are over it.
 fn digits(s: &[u8]) -> Field
     ensures { λ r. ⌜ r ≡ numeral (now (s .entry)) ⌝ }
 {
     if s.len() == 0 {
+        return Field::Bad;
+    }
+    if MOST_DIGITS < s.len() {
         return Field::Bad;
     }
     if s[0] == ZERO {
@@ -54,7 +60,7 @@ fn digits(s: &[u8]) -> Field
             return Field::Bad;
         }
     }
-    let mut v: u32 = 0;
+    let mut v: u64 = 0;
     let mut i: usize = 0;
     while i < s.len() {
         let b = s[i];
@@ -64,14 +70,13 @@ fn digits(s: &[u8]) -> Field
         if NINE < b {
             return Field::Bad;
         }
-        let next = v as u64 * 10 + (b - ZERO) as u64;
-        if LARGEST < next {
-            return Field::Bad;
-        }
-        v = next as u32;
+        v = v * 10 + (b as u64 - ZERO as u64);
         i += 1;
     }
-    Field::Value(v)
+    if LARGEST < v {
+        return Field::Bad;
+    }
+    Field::Value(v as u32)
 }
 
 // The number in the first `width` bytes of s; what stands after them is not looked at.
@@ -122,9 +127,10 @@ pub fn fits_in(width: usize, v: u32) -> bool
     rest == 0
 }
 
-// Writes v into the field of `width` columns from index `at` on, from its last column to its first. The field is in the buffer.
+// Writes v into the field of `width` columns from index `at` on, from its last column to its first. v has a spelling in so many columns, and
+// the field is in the buffer: a number that does not fit cannot be asked for.
 pub fn write_number(buf: &mut [u8], at: usize, width: usize, v: u32)
-    requires { ⌜ (1 ≤ width) × (at + width ≤ length (now buf)) ⌝ }
+    requires { ⌜ (fitsIn width v ≡ true) × (at + width ≤ length (now buf)) ⌝ }
     ensures { λ _. ⌜ now (buf .exit) ≡ take at (now (buf .entry)) ++ (spell width v ++ drop (at + width) (now (buf .entry))) ⌝ }
 {
     let mut i = width - 1;

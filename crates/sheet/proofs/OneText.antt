@@ -22,9 +22,9 @@ use Rattle.sheet.specs.declared.Stand.{Stand}
 use Rattle.sheet.specs.declared.Parsed.the-variants.{Row}
 use Rattle.sheet.specs.Row.{six, lineOf, start}
 use Rattle.sheet.specs.Reading.{headed, headOf, Taken, more, after, rowBytes, rowsFrom, rowIn, sheetOf, taken, accepted, closing, answer, sheetIn}
-use Rattle.sheet.specs.Text.{rowText, rowsText, headText, sheetText, numbersOf, textOf}
+use Rattle.sheet.specs.Text.{Fits, rowText, rowsText, headText, sheetText, numbersOf, textOf}
 use Rattle.sheet.proofs.Accepted.{Accepted}
-use Rattle.sheet.proofs.Texts.{past, row-text-length, head-text-length, sheet-text-length, row-at, Fits, row-read}
+use Rattle.sheet.proofs.Texts.{past, row-text-length, head-text-length, sheet-text-length, row-at, row-read}
 use Rattle.sheet.proofs.Theorems.{tag, accepted-sheet, accepted-rows}
 
 -- The first line of a text is read as k and the row count.

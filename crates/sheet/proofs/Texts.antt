@@ -3,7 +3,7 @@
 use mathlib.Core.Path.{_≡_, refl, sym, ap, ap₂, _∙_}
 use mathlib.Core.Bool.{Bool, true, false, cond}
 use mathlib.Core.List.{List, [], _∷_, _++_, append-assoc}
-use Prim.Native.Nat.{ℕ, zero, suc, _+_, _*_, _-_, _≤_, _<_}
+use Prim.Native.Nat.{ℕ, zero, suc, _+_, _*_, _-_}
 use native.Mathlib.Omega.{arith}
 use lib.ListN.{length, take, drop, getD, take-append-drop, drop-of-length-le, length-append}
 use lib.Seq.{drop-append-seam, take-append-seam, drop-drop, drop-cons, getD-drop}
@@ -23,7 +23,7 @@ use Rattle.sheet.specs.Reading.{headOf, Taken, stop, more, onLine, after
 use Rattle.sheet.proofs.Loop.{row-length}
 use Rattle.sheet.proofs.Store.{Good}
 use Rattle.sheet.proofs.Values.{field-most}
-use Rattle.sheet.specs.Text.{rowText, rowsText, headText, sheetText}
+use Rattle.sheet.specs.Text.{Fits, rowText, rowsText, headText, sheetText}
 
 -- Fields one after another, at any widths
 
@@ -80,14 +80,6 @@ row-at front rest l i h =
     ∙ ap (λ (n : ℕ). take n (rowText l ++ rest)) (sym (row-text-length l)) ∙ take-append-seam (rowText l) rest
 
 -- A row's text is read as the row.
-pub record Fits (l : Line) : Type 0 where
-  pub section : l .section < 1000
-  pub kind : l .kind < 1000
-  pub p : l .p < 1000
-  pub q : l .q < 1000
-  pub a : l .a ≤ 4294967295
-  pub b : l .b ≤ 4294967295
-
 module _ (l : Line) where
   abbrev r6 : List ℕ
   r6 = 10 ∷ []

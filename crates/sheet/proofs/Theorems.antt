@@ -25,8 +25,8 @@ use Rattle.sheet.specs.declared.Parsed.the-variants.{Row as Parsed·row,
 use Rattle.sheet.specs.Row.{start, lineOf, refusal}
 use Rattle.sheet.specs.Reading.{headOf, Taken, stop, onLine, after, rowBytes, rowsFrom, rowIn, section, sections, sheetOf, taken, refused, accepted, closing, answer}
 use Rattle.sheet.specs.Memory.{lay, linesIn}
-use Rattle.sheet.specs.Text.{sheetText}
-use Rattle.sheet.proofs.Texts.{Fits, row-fits, text-only}
+use Rattle.sheet.specs.Text.{Fits, sheetText}
+use Rattle.sheet.proofs.Texts.{row-fits, text-only}
 use Rattle.sheet.proofs.Arms.{kind-low, kind-high}
 use Rattle.sheet.proofs.Points.{fields-back}
 use Rattle.sheet.proofs.Store.{head-good, rows-full, lines-back}

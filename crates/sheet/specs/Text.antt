@@ -1,13 +1,22 @@
 -- The text of a sheet: "a sheet's first line (k, its row count) and rows".
 -- Assumes nothing.
 use mathlib.Core.List.{List, [], _∷_, _++_, map}
-use Prim.Native.Nat.{ℕ}
+use Prim.Native.Nat.{ℕ, _≤_, _<_}
 use lib.ListN.{length}
 use Rattle.columns.specs.Spell.{spell}
 use Rattle.scenario.specs.Fields.{fields, Tagged, tagged}
 use Rattle.scenario.specs.Sheet.{Sheet}
 use Rattle.sheet.specs.declared.Line.{Line}
 use Rattle.sheet.specs.Row.{six}
+
+-- a row's numbers fit their columns, 3 or 11 of them, and a and b are no larger than a field holds
+pub record Fits (l : Line) : Type 0 where
+  pub section : l .section < 1000
+  pub kind : l .kind < 1000
+  pub p : l .p < 1000
+  pub q : l .q < 1000
+  pub a : l .a ≤ 4294967295
+  pub b : l .b ≤ 4294967295
 
 unfoldable pub rowText : Line → List ℕ
 rowText l =

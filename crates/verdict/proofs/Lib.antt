@@ -1,6 +1,7 @@
 pub mod Demands
 pub mod DemandThree
 pub mod Showing
+pub mod Bound
 pub mod Printing
 pub mod Steps
 pub mod Consequents

@@ -1,37 +1,47 @@
--- The lines that the program prints, written field by field; and that they fit.
--- Carried by `inked-more` (one text after another), and by a bound of the points and the consequents that a check names.
+-- The lines that the program prints, written field by field; and that they fit, each number its columns and all of them the text.
+-- Carried by `inked-more` (one text after another), and by `Few`, a bound of all that a check names.
 -- Assumes nothing.
 use mathlib.Core.Path.{_≡_, refl, sym, ap, ap₂, _∙_, subst}
 use mathlib.Core.Bool.{Bool, true, false, not, cond}
 use mathlib.Core.List.{List, [], _∷_, _++_, append-nil}
-use Prim.Native.Nat.{ℕ, zero, suc, _+_, _-_, _≤_, _<_}
+use Prim.Native.Nat.{ℕ, zero, suc, _+_, _-_, _^_, _≤_, _<_}
 use native.Mathlib.Nat.{sub-zero}
 use native.Mathlib.Numerals.{add-one}
 use native.Mathlib.Omega.{arith}
 use lib.ListN.{length, getD, take, drop, replicate, set, length-append, length-set, drop-of-length-le}
-use lib.Seq.{drop-cons}
+use lib.Seq.{drop-cons, take-append-seam}
 use lib.Dec.{eqb}
 use borrow.Author.Tests.{eqb-true}
 use Rattle.scenario.specs.Rows.{Run, points}
-use Rattle.scenario.specs.Sheet.{Sheet, Answer, nothing, found, Says}
-use Rattle.scenario.specs.Search.{check, is-violating, faults}
+use Rattle.scenario.specs.Sheet.{Sheet, Answer, nothing, found, Says, env, all, matching}
+use Rattle.scenario.specs.Walk.{walk}
+use Rattle.scenario.specs.Search.{check, is-violating, stopped, faults}
+use Rattle.scenario.specs.Reading.{All}
+use Rattle.scenario.proofs.Base.{all-map, all-getD, both}
 use Rattle.scenario.proofs.Least.{Placed, least-says}
-use Rattle.columns.specs.Spell.{spell}
+use Rattle.columns.specs.Spell.{spell, fitsIn}
+use Rattle.columns.proofs.Fits.{parts-fit}
 use Rattle.columns.proofs.Spelling.{spell-length}
 use Rattle.sheet.specs.Reading.{sheetIn, answer as sheet-answer}
 use Rattle.sheet.proofs.Theorems.{accepted-sheet}
 use Rattle.runlog.specs.Log.{runIn, answer as log-answer}
+use Rattle.runlog.proofs.Whole.{answer-few}
+use Rattle.runlog.proofs.Theorems.{accepted-text}
 use Rattle.antiscenario.specs.Write.{inked}
 use Rattle.antiscenario.proofs.Ink.{after, inked-length, number-inked, byte-inked}
 use Rattle.verdict.specs.declared.Checked.{Checked}
 use Rattle.verdict.specs.declared.Report.{Report}
 use Rattle.verdict.specs.Check.{blank, front, violatedAt, placementIn, rowsIn, verdictOf, checkOf}
-use Rattle.verdict.specs.Printing.{lineText, verdictNumber, reportText, reportOf}
+use Rattle.verdict.specs.Printing.{InColumns, lineText, verdictNumber, reportText, reportOf}
 use Rattle.verdict.proofs.Consequents.{faults-length}
+use Rattle.verdict.proofs.Bound.{sheet-refusal-low, log-refusal-low, faults-low}
 
 -- One line
 
 module _ (width : ℕ) (vs : List ℕ) (i : ℕ) where
+  pub field-fits : i < length vs → InColumns width vs → fitsIn width (getD vs i 0) ≡ true
+  field-fits h A = all-getD (λ (v : ℕ). fitsIn width v ≡ true) 0 vs A i h
+
   pub field-next : i < length vs → lineText width (drop i vs) ≡ spell width (getD vs i 0) ++ lineText width (drop (i + 1) vs)
   unfolding lineText
   field-next h = rw (drop-cons vs i 0 h, add-one i)
@@ -84,31 +94,57 @@ lent n l = rw sub-zero
 pub within : (n room : ℕ) (l : List ℕ) → n ≤ room → length l ≡ room → n ≤ length l
 within n room l h e = omega arith
 
--- What a check names: at most 4 points and 6 consequents
+-- What a check names: a refusal up to 27; at most 4 points, at lines up to 4,000; for at most 6 consequents rows up to 176
 
 pub record Few (c : Checked) : Type 0 where
+  pub refusal : c .refusal ≤ 27
   pub points : c .points ≤ 4
   pub consequents : c .consequents ≤ 6
+  pub positions : All (λ (x : ℕ). x ≤ 4000) (placementIn c)
+  pub rows : All (λ (x : ℕ). x ≤ 176) (rowsIn c)
+
+blank-few : (r : ℕ) → r ≤ 27 → Few (blank r)
+blank-few r h = record { refusal = h; points = omega arith; consequents = omega arith; positions = tt; rows = tt }
 
 module _ (s l : List ℕ) where
-  named-few : sheet-answer s .refusal ≡ 0 → (a : Answer) → check (runIn l) (sheetIn s) ≡ a → Few (verdictOf (runIn l) (sheetIn s) a)
-  unfolding verdictOf violatedAt check
-  named-few z nothing e = record { points = omega arith; consequents = omega arith }
-  named-few z (found xs) e =
-      let R = accepted-sheet s z .read in
-      let p = subst (Says (Placed (runIn l .lines) (length (points (sheetIn s .antecedent))) (is-violating (runIn l) (sheetIn s)))) e
-      (least-says (runIn l .lines) (length (points (sheetIn s .antecedent))) (is-violating (runIn l) (sheetIn s))) in
-      record { points = omega (arith, p .has .size, R .few); consequents = omega (arith, faults-length (runIn l) (sheetIn s) xs (sheetIn s .consequents) (length (sheetIn s .antecedent)), R .count) }
+  named-few : sheet-answer s .refusal ≡ 0 → log-answer l .refusal ≡ 0 → (a : Answer) → check (runIn l) (sheetIn s) ≡ a → Few (verdictOf (runIn l) (sheetIn s) a)
+  unfolding verdictOf violatedAt front check is-violating
+  named-few z w nothing e = blank-few 0 (omega arith)
+  named-few z w (found xs) e =
+      let S = accepted-sheet s z in
+      let R = S .read in
+      let sheet = sheetIn s in
+      let fs = faults (runIn l) sheet xs (length (sheet .antecedent)) (sheet .consequents) in
+      let p = subst (Says (Placed (runIn l .lines) (length (points (sheet .antecedent))) (is-violating (runIn l) sheet))) e
+      (least-says (runIn l .lines) (length (points (sheet .antecedent))) (is-violating (runIn l) sheet)) in
+      let n : runIn l .lines ≤ 4000 = omega (arith, accepted-text l w .lines, answer-few l) in
+      let halts = both (matching (runIn l) (sheet .antecedent) xs) (all (λ c. stopped (walk (runIn l) (env (runIn l) (points (sheet .antecedent)) xs) c)) (sheet .consequents)) (p .has .passes) .1 in
+      record {
+        refusal = omega arith;
+        points = omega (arith, p .has .size, R .few);
+        consequents = omega (arith, faults-length (runIn l) sheet xs (sheet .consequents) (length (sheet .antecedent)), R .count);
+        positions = subst (All (λ (x : ℕ). x ≤ 4000)) (sym (take-append-seam xs (drop (length xs) (replicate 4 0)))) (all-map (λ x h. omega (arith, h .1, n)) xs (p .has .lines));
+        rows = subst (All (λ (x : ℕ). x ≤ 176)) (sym (take-append-seam fs (drop (length fs) (replicate 6 0))))
+            (all-map (λ x h. omega (arith, h, S .antecedent-room, R .count)) fs (faults-low (runIn l) sheet xs (sheet .consequents) (length (sheet .antecedent)) (S .consequent-room) halts));
+      }
 
   pub check-few : Few (checkOf s l)
   unfolding checkOf
-  check-few = go (eqb (sheet-answer s .refusal) 0) (eqb (log-answer l .refusal) 0) refl
+  check-few = go (eqb (sheet-answer s .refusal) 0) (eqb (log-answer l .refusal) 0) refl refl
     where
-      go : (b c : Bool) → eqb (sheet-answer s .refusal) 0 ≡ b
+      go : (b c : Bool) → eqb (sheet-answer s .refusal) 0 ≡ b → eqb (log-answer l .refusal) 0 ≡ c
           → Few (cond (not b) (blank (sheet-answer s .refusal)) (cond (not c) (blank (log-answer l .refusal)) (verdictOf (runIn l) (sheetIn s) (check (runIn l) (sheetIn s)))))
-      go false c e = record { points = omega arith; consequents = omega arith }
-      go true false e = record { points = omega arith; consequents = omega arith }
-      go true true e = named-few (eqb-true (sheet-answer s .refusal) 0 e) (check (runIn l) (sheetIn s)) refl
+      go false c e f = blank-few (sheet-answer s .refusal) (omega (arith, sheet-refusal-low s))
+      go true false e f = blank-few (log-answer l .refusal) (log-refusal-low l)
+      go true true e f = named-few (eqb-true (sheet-answer s .refusal) 0 e) (eqb-true (log-answer l .refusal) 0 f) (check (runIn l) (sheetIn s)) refl
+
+-- numbers up to a bound that fits
+up-to-in-columns : (w most : ℕ) (vs : List ℕ) → 1 ≤ w → most < 10 ^ w → All (λ (x : ℕ). x ≤ most) vs → InColumns w vs
+up-to-in-columns w most vs h k A = all-map (λ v b. parts-fit w v h (omega (arith, b, k))) vs A
+
+verdict-low : (b : Bool) → verdictNumber b ≤ 1
+verdict-low true = omega arith
+verdict-low false = omega arith
 
 -- The whole text, line by line: c is what the check answers, q the verdict's number
 
@@ -135,8 +171,9 @@ module _ (s l : List ℕ) (c : Checked) (e : c ≡ checkOf s l) where
     unfolding room
     rows-short = line-short 4 6 (rowsIn c) (omega (arith, few .consequents, take-short (c .consequents) (c .rows)))
 
-    pub first-fits : 0 + length (lineText 3 first) ≤ 64
-    first-fits = omega (arith, first-short)
+    -- a line fits: each number its columns, and the line what is left of the text
+    pub first-fits : InColumns 3 first × (0 + length (lineText 3 first) ≤ 64)
+    first-fits = (up-to-in-columns 3 27 first (omega arith) (omega arith) (few .refusal, (omega (arith, eq, verdict-low (c .violated)), tt)), omega (arith, first-short))
 
     text-made : (t : List ℕ) (n : ℕ) (u : List ℕ) → reportText c ≡ u → n ≡ length u → t ≡ inked 0 u (replicate 64 0) → report t n ≡ reportOf s l
     unfolding reportOf front inked
@@ -167,16 +204,16 @@ module _ (s l : List ℕ) (c : Checked) (e : c ≡ checkOf s l) where
       third-short : length (lineText 4 R) ≤ 25
       third-short = subst (λ (z : List ℕ). length (lineText 4 z) ≤ 25) (sym eR) rows-short
 
-      pub second-fits : n₁ + length (lineText 5 P) ≤ 64
-      second-fits = omega (arith, a₁, first-short, second-short)
+      pub second-fits : InColumns 5 P × (n₁ + length (lineText 5 P) ≤ 64)
+      second-fits = (subst (InColumns 5) (sym eP) (up-to-in-columns 5 4000 (placementIn c) (omega arith) (omega arith) (few .positions)), omega (arith, a₁, first-short, second-short))
 
       module _ (n₂ : ℕ) (a₂ : n₂ ≡ n₁ + length (lineText 5 P)) where
-        pub third-fits : n₂ + length (lineText 4 R) ≤ 64
-        third-fits = omega (arith, a₁, a₂, first-short, second-short, third-short)
+        pub third-fits : InColumns 4 R × (n₂ + length (lineText 4 R) ≤ 64)
+        third-fits = (subst (InColumns 4) (sym eR) (up-to-in-columns 4 176 (rowsIn c) (omega arith) (omega arith) (few .rows)), omega (arith, a₁, a₂, first-short, second-short, third-short))
 
         module _ (n₃ : ℕ) (a₃ : n₃ ≡ n₂ + length (lineText 4 R)) where
           pub three-fits : n₃ ≤ 64
-          three-fits = omega (arith, a₃, third-fits)
+          three-fits = omega (arith, a₃, third-fits .1)
 
           pub three-lines : c .violated ≡ true → (t₁ t₂ t₃ : List ℕ)
               → t₁ ≡ inked 0 (lineText 3 first) (replicate 64 0) → t₂ ≡ inked n₁ (lineText 5 P) t₁ → t₃ ≡ inked n₂ (lineText 4 R) t₂ → report t₃ n₃ ≡ reportOf s l

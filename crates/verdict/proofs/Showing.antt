@@ -45,7 +45,7 @@ low-on : (f : Field) (g : ℕ → SheetHead) → ((v : ℕ) → Low (g v)) → L
 low-on (Value v) g h = h v
 low-on Bad g h = omega arith
 
-sheet-head-low : (s : List ℕ) → reading.headOf s .refusal ≤ 3
+pub sheet-head-low : (s : List ℕ) → reading.headOf s .refusal ≤ 3
 unfolding reading.headOf
 sheet-head-low s =
     low-if (ltb (length s) 7) _ _ (omega arith)
@@ -113,7 +113,7 @@ log-low-on : (f : Field) (g : ℕ → LogHead) → ((v : ℕ) → g v .refusal �
 log-low-on (Value v) g h = h v
 log-low-on Bad g h = omega arith
 
-log-head-low : (l : List ℕ) → log.headOf l .refusal ≤ 23
+pub log-head-low : (l : List ℕ) → log.headOf l .refusal ≤ 23
 unfolding log.headOf
 log-head-low l =
     log-low-if (ltb (length l) 28) _ _ (omega arith)

@@ -1,13 +1,19 @@
 -- What the program prints: refusal number and verdict; when violated, a line of the antecedent's positions and one of the rows at fault.
 -- Assumes nothing.
+use mathlib.Core.Path.{_≡_}
 use mathlib.Core.Bool.{Bool, true, false, cond}
 use mathlib.Core.List.{List, [], _∷_, _++_}
 use Prim.Native.Nat.{ℕ}
 use lib.ListN.{length}
-use Rattle.columns.specs.Spell.{spell}
+use Rattle.columns.specs.Spell.{spell, fitsIn}
+use Rattle.scenario.specs.Reading.{All}
 use Rattle.verdict.specs.declared.Checked.{Checked}
 use Rattle.verdict.specs.declared.Report.{Report}
 use Rattle.verdict.specs.Check.{front, placementIn, rowsIn, checkOf}
+
+-- each number has a spelling in `width` columns
+abbrev pub InColumns : (width : ℕ) → List ℕ → Type 0
+InColumns width vs = All (λ (v : ℕ). fitsIn width v ≡ true) vs
 
 -- fields of one width side by side, and the line's end
 unfoldable pub lineText : (width : ℕ) → List ℕ → List ℕ

@@ -3,7 +3,7 @@
 use mathlib.Core.Path.{_∙_}
 use native.Mathlib.Omega.{arith}
 use lib.ListN.{replicate}
-use Rattle.antiscenario.proofs.Writing.{out-room, rows-few, k-few, product-is, n-few, short, done, no-sheet, below, above, room-1056, room-1200}
+use Rattle.antiscenario.proofs.Writing.{out-room, out-fits, rows-few, k-few, product-is, n-few, short, done, no-sheet, below, above, room-1056, room-1200}
 use borrow.Author.Needs.{needs}
 use Rattle.antiscenario.proofs.write_antiscenario.Statement.{statement}
 use Rattle.antiscenario.proofs.write_antiscenario.Tie as tie
@@ -73,11 +73,15 @@ write-text-requires c κs =
     let a = c .before .before .before .before .before .before .before .before .before .before .before .before .before .before .before .before .before .args in
     let x = c .before .before .before .before .before .before .before .before .before .before .before .before .before .load-sheet in
     let b = c .before .before .before .before .build in
-    let h = n-few (a .sheet .now) (a .m) (x .result) (x .ensures .0) (c .before .before .before .before .before .before .before .before .before .before .if1 .left) (x .last .1 .0) (replicate 1056 0) room-1056 (x .ensures .1)
+    let z = c .before .before .before .before .before .before .before .before .before .before .if1 .left in
+    let h = n-few (a .sheet .now) (a .m) (x .result) (x .ensures .0) z (x .last .1 .0) (replicate 1056 0) room-1056 (x .ensures .1)
     (b .last .1 .1 .1 .1 .1 .0) (replicate 1200 0) (b .result) room-1200 (b .ensures .0) (b .ensures .1) in (
       c .before .before .if4 .left,
       omega (arith, h),
-      out-room (a .sheet .now) (a .m) (x .result) (x .ensures .0) (c .before .before .before .before .before .before .before .before .before .before .if1 .left) (x .last .1 .0) (replicate 1056 0) room-1056 (x .ensures .1)
+      out-room (a .sheet .now) (a .m) (x .result) (x .ensures .0) z (x .last .1 .0) (replicate 1056 0) room-1056 (x .ensures .1)
+          (b .last .1 .1 .1 .1 .1 .0) (replicate 1200 0) (b .result) room-1200 (b .ensures .0) (b .ensures .1),
+      omega (arith, k-few (a .sheet .now) (a .m) (x .result) (x .ensures .0) z),
+      out-fits (a .sheet .now) (a .m) (x .result) (x .ensures .0) z (x .last .1 .0) (replicate 1056 0) room-1056 (x .ensures .1)
           (b .last .1 .1 .1 .1 .1 .0) (replicate 1200 0) (b .result) room-1200 (b .ensures .0) (b .ensures .1),
     )
 

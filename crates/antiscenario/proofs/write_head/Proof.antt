@@ -2,6 +2,7 @@
 -- Assumes nothing.
 use mathlib.Core.Path.{refl, _∙_}
 use lib.ListN.{length-set}
+use Rattle.antiscenario.proofs.Fitting.{three}
 use Rattle.antiscenario.proofs.Ink.{head-inked}
 use borrow.Author.Needs.{needs}
 use Rattle.antiscenario.proofs.write_head.Statement.{statement}
@@ -13,10 +14,10 @@ same-length c = length-set (c .before .before .write-number2 .last .0) _ _ ∙ c
 returns : tie.Need-returns
 returns c =
     let a = c .before .before .before .before .before .before .before .before .before .args in
-    head-inked (a .k) (a .n) (a .buf .now) (c .before .before .before .before .before .before .write-number .last .0) (c .before .before .write-number2 .last .0) _ (c .before .before .before .before .before .before .before .before .before .pre) (c .before .before .before .before .before .before .write-number .kept .0)
+    head-inked (a .k) (a .n) (a .buf .now) (c .before .before .before .before .before .before .write-number .last .0) (c .before .before .write-number2 .last .0) _ (c .before .before .before .before .before .before .before .before .before .pre .0) (c .before .before .before .before .before .before .write-number .kept .0)
     (c .before .before .write-number2 .kept .0 ∙ c .before .before .before .before .before .before .write-number .kept .0) (c .before .before .before .before .before .before .write-number .ensures) (c .before .before .write-number2 .ensures) refl
 
 pub write-head-spec : {M : Type 1} → statement M
 write-head-spec =
     tie.close
-    (tie.spec (λ c κs. search needs) (λ c κs. search needs) (λ c. search needs) same-length returns)
+    (tie.spec (λ c κs. (three _ (c .before .before .pre .1), search needs)) (λ c κs. (three _ (c .before .before .before .before .before .before .pre .2), search needs)) (λ c. search needs) same-length returns)

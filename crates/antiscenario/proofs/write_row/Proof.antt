@@ -2,6 +2,7 @@
 -- Assumes nothing.
 use mathlib.Core.Path.{refl, _∙_}
 use lib.ListN.{length-set}
+use Rattle.antiscenario.proofs.Fitting.{three, eleven}
 use Rattle.antiscenario.proofs.Ink.{row-inked}
 use borrow.Author.Needs.{needs}
 use Rattle.antiscenario.proofs.write_row.Statement.{statement}
@@ -21,17 +22,17 @@ pub write-row-spec : {M : Type 1} → statement M
 write-row-spec =
     tie.close
     (tie.spec
-    (λ c κs. search needs)
+    (λ c κs. (three _ (c .before .before .pre .2 .section), search needs))
     (λ c. search needs)
-    (λ c κs. search needs)
+    (λ c κs. (three _ (c .before .before .before .before .before .before .pre .2 .kind), search needs))
     (λ c. search needs)
-    (λ c κs. search needs)
+    (λ c κs. (three _ (c .before .before .before .before .before .before .before .before .before .before .pre .2 .p), search needs))
     (λ c. search needs)
-    (λ c κs. search needs)
+    (λ c κs. (three _ (c .before .before .before .before .before .before .before .before .before .before .before .before .before .before .pre .2 .q), search needs))
     (λ c. search needs)
-    (λ c κs. search needs)
+    (λ c κs. (eleven _ (c .before .before .before .before .before .before .before .before .before .before .before .before .before .before .before .before .before .before .pre .2 .a), search needs))
     (λ c. search needs)
-    (λ c κs. search needs)
+    (λ c κs. (eleven _ (c .before .before .before .before .before .before .before .before .before .before .before .before .before .before .before .before .before .before .before .before .before .before .pre .2 .b), search needs))
     (λ c. search needs)
     (λ c. search needs)
     same-length

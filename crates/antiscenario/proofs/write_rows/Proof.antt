@@ -1,14 +1,15 @@
 -- `write_rows` meets its contract: the lines from number i on, written after those so far, are all of them.
 -- Assumes nothing.
 use borrow.Author.Needs.{needs}
-use mathlib.Core.Path.{_≡_, refl, ap, _∙_}
+use mathlib.Core.Path.{_≡_, refl, sym, ap, _∙_, subst}
 use Prim.Native.Nat.{_≤_, _-_, _+_, _*_}
 use native.Mathlib.Nat.{sub-zero}
 use lib.ListN.{length}
 use Rattle.sheet.specs.declared.Line.{Line}
 use Rattle.sheet.specs.Memory.{linesIn}
-use Rattle.sheet.specs.Text.{rowText, rowsText}
+use Rattle.sheet.specs.Text.{Fits, rowText, rowsText}
 use Rattle.antiscenario.specs.Write.{inked}
+use Rattle.antiscenario.proofs.Accept.{at-line}
 use Rattle.antiscenario.proofs.Ink.{rows-on, rows-end}
 use Rattle.antiscenario.proofs.write_rows.Statement.{statement}
 use Rattle.antiscenario.proofs.write_rows.Tie as tie
@@ -21,6 +22,11 @@ abbrev μ-loop : tie.MeasureT-loop
 
 loop-holds : tie.Need-loop-holds Inv-loop μ-loop
 loop-holds c = (search needs, refl, rw sub-zero refl)
+
+write-row-requires : tie.Need-write-row-requires Inv-loop μ-loop
+write-row-requires c κs =
+    let s = c .before .before .before .before .before .before in
+    (search needs, search needs, subst Fits (sym (c .row-in .ensures)) (at-line Fits (s .args .rows .now) (s .args .n) 0 (s .pre .3) (c .before .before .before .loop .i) (search needs) (search needs)))
 
 loop-again : tie.Need-loop-again Inv-loop μ-loop
 loop-again c =
@@ -50,7 +56,7 @@ write-rows-spec =
     (λ c. search needs)
     (λ c. search needs)
     (λ c κs. search needs)
-    (λ c κs. search needs)
+    write-row-requires
     (λ c. search needs)
     (λ c. search needs)
     loop-again

@@ -6,7 +6,6 @@ use mathlib.Core.Path.{_≡_, sym, _∙_}
 use mathlib.Core.Bool.{true}
 use native.Mathlib.Omega.{arith}
 use Rattle.columns.specs.Spell.{fitsIn}
-use Rattle.columns.proofs.Fits.{fits-parts}
 use Rattle.columns.proofs.Entering.{too-wide, too-far, made}
 use Rattle.columns.proofs.write_field.Statement.{statement}
 use Rattle.columns.proofs.write_field.Tie as tie
@@ -31,8 +30,7 @@ returns-3 c =
 write-number-requires : tie.Need-write-number-requires
 write-number-requires c κs =
     let k = c .before in
-    let f = fits-parts _ _ (fits-here (k .before .before)) in
-    (f .0, omega (arith, k .before .if2 .left, k .if3 .left))
+    (fits-here (k .before .before), omega (arith, k .before .if2 .left, k .if3 .left))
 
 returns-4 : tie.Need-returns-4
 returns-4 c =

@@ -5,6 +5,7 @@ use mathlib.Core.Path.{_≡_, refl, _∙_}
 use Prim.Native.Nat.{_-_, _≤_}
 use lib.ListN.{length, length-set}
 use Rattle.columns.specs.Spell.{left}
+use Rattle.columns.proofs.Fits.{fits-parts}
 use Rattle.columns.proofs.Ink.{field, ink-last, ink-left, ink-end}
 use Rattle.columns.proofs.write_number.Statement.{statement}
 use Rattle.columns.proofs.write_number.Tie as tie
@@ -16,12 +17,16 @@ Inv-loop buf₀ at width v i₀ rest₀ buf i rest =
 abbrev μ-loop : tie.MeasureT-loop
 μ-loop buf₀ at width v i₀ rest₀ buf i rest = i
 
+-- what fits has a column
+column : (c : tie.Start Inv-loop μ-loop) → 1 ≤ c .args .width
+column c = fits-parts (c .args .width) (c .args .v) (c .pre .0) .0
+
 -- the length stays
 long : (c : tie.At-loop Inv-loop μ-loop) → length (c .loop .buf) ≡ length (c .before .before .before .args .buf .now)
 long c = c .loop .inv .1 ∙ length-set (c .before .before .before .args .buf .now) _ _
 
 sub-i : tie.Need-sub-i Inv-loop μ-loop
-sub-i c = search needs
+sub-i c = let h = column (c .before) in search needs
 
 last-byte-requires : tie.Need-last-byte-requires Inv-loop μ-loop
 last-byte-requires c κs = search needs
@@ -30,7 +35,7 @@ add-buf : tie.Need-add-buf Inv-loop μ-loop
 add-buf c = search needs
 
 slice-write-buf : tie.Need-slice-write-buf Inv-loop μ-loop
-slice-write-buf c = search needs
+slice-write-buf c = let h = column (c .before .before) in search needs
 
 loop-holds : tie.Need-loop-holds Inv-loop μ-loop
 loop-holds c = (search needs, refl, refl)
@@ -63,6 +68,7 @@ returns : tie.Need-returns Inv-loop μ-loop
 returns c =
     let l = c .before .loop in
     let a = c .before .before .before .before .args in
+    let h = column (c .before .before .before .before) in
     ink-end (a .at) (l .i) (l .rest) (l .buf) (c .loop-test .left) ∙ l .inv .2
     ∙ rw (c .before .before .last-byte .ensures) (ink-last (a .at) (a .width) (a .v) (a .buf .now) (search needs) (search needs))
 

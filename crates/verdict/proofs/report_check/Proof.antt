@@ -2,7 +2,6 @@
 use borrow.Author.Needs.{needs}
 use mathlib.Core.Path.{_≡_, _∙_}
 use lib.ListN.{length}
-use native.Mathlib.Omega.{arith}
 use borrow.Author.Tests.{not-true, not-false}
 use Rattle.verdict.proofs.Printing.{lent, within, few, first-fits, second-fits, third-fits, one-line, one-fits, three-lines, three-fits}
 use Rattle.verdict.proofs.report_check.Statement.{statement}
@@ -33,7 +32,8 @@ write-line-requires c κs =
     let s = k .before .before .before in
     let v = c .before .before .verdict-number in
     let x = k .check in
-    (omega arith, first-fits (s .args .sheet .now) (s .args .log .now) (x .result) (x .ensures .0) (v .result) (v .ensures), search needs)
+    let f = first-fits (s .args .sheet .now) (s .args .log .now) (x .result) (x .ensures .0) (v .result) (v .ensures) in
+    (f .0, f .1, search needs)
 
 returns : tie.Need-returns
 returns c =
@@ -72,7 +72,8 @@ write-line-requires-2 c κs =
     let v = c .before .before .before .before .before .before .before .before .before .before .before .verdict-number in
     let x = k .check in
     let w = c .before .before .before .before .before .before .before .before .write-line in
-    (omega arith, second-fits (s .args .sheet .now) (s .args .log .now) (x .result) (x .ensures .0) (v .result) (v .ensures) _ _ (lent (x .result .points) (x .result .positions)) (lent (x .result .consequents) (x .result .rows)) (w .result) (w .ensures .0), w .kept .0)
+    let f = second-fits (s .args .sheet .now) (s .args .log .now) (x .result) (x .ensures .0) (v .result) (v .ensures) _ _ (lent (x .result .points) (x .result .positions)) (lent (x .result .consequents) (x .result .rows)) (w .result) (w .ensures .0) in
+    (f .0, f .1, w .kept .0)
 
 cast-consequents : tie.Need-cast-consequents
 cast-consequents c = search needs
@@ -102,7 +103,8 @@ write-line-requires-3 c κs =
     let x = k .check in
     let w = c .before .before .before .before .before .before .before .before .before .before .before .before .before .before .before .write-line in
     let w2 = c .before .before .before .before .before .before .write-line2 in
-    (omega arith, third-fits (s .args .sheet .now) (s .args .log .now) (x .result) (x .ensures .0) (v .result) (v .ensures) _ _ (lent (x .result .points) (x .result .positions)) (lent (x .result .consequents) (x .result .rows)) (w .result) (w .ensures .0) (w2 .result) (w2 .ensures .0), w2 .kept .0 ∙ w .kept .0)
+    let f = third-fits (s .args .sheet .now) (s .args .log .now) (x .result) (x .ensures .0) (v .result) (v .ensures) _ _ (lent (x .result .points) (x .result .positions)) (lent (x .result .consequents) (x .result .rows)) (w .result) (w .ensures .0) (w2 .result) (w2 .ensures .0) in
+    (f .0, f .1, w2 .kept .0 ∙ w .kept .0)
 
 returns-2 : tie.Need-returns-2
 returns-2 c =

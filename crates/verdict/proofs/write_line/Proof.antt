@@ -6,7 +6,7 @@ use native.Mathlib.Omega.{arith}
 use lib.ListN.{length, drop, length-set}
 use Rattle.antiscenario.specs.Write.{inked}
 use Rattle.verdict.specs.Printing.{lineText}
-use Rattle.verdict.proofs.Printing.{field-size, field-on, end-size, end-on}
+use Rattle.verdict.proofs.Printing.{field-fits, field-size, field-on, end-size, end-on}
 use Rattle.verdict.proofs.write_line.Statement.{statement}
 use Rattle.verdict.proofs.write_line.Tie as tie
 
@@ -44,7 +44,7 @@ write-number-requires c κs =
     let k = c .before .before in
     let l = k .before in
     let s = l .before .before .before in
-    (s .pre .0, omega (arith, turn k, l .loop .inv .1, s .pre .2))
+    (field-fits (s .args .width) (s .args .values .now) (l .loop .i) (k .loop-test .taken) (s .pre .0), omega (arith, turn k, l .loop .inv .1, s .pre .2))
 
 add-to : tie.Need-add-to Inv-loop μ-loop
 add-to c = record { fits = omega (arith, turn (c .before .before .before .before .before)) }
