@@ -324,13 +324,15 @@ pub fn build(rows: &[u32], n: usize, k: u32, count: u64, j: u64, out: &mut [u32]
     ensures ends { λ r. ⌜ r ≡ length (built (now (rows .entry)) n k j) ⌝ }
     ensures memory { λ r. ⌜ now (out .exit) ≡ lay 0 (built (now (rows .entry)) n k j) (now (out .entry)) ⌝ }
 {
+    let mut denials = [0u64; sheet::SECTIONS];
+    sheet::weigh_sections(rows, n, &mut denials);
     let mut at = copy_section(rows, n, 0, out);
     let mut s: u32 = 0;
     let mut total = count;
     let mut left = j;
     while s < k {
         s += 1;
-        total = total / sheet::denials_of(rows, n, s);
+        total = total / denials[s as usize];
         at = deny_section(rows, n, s, left / total, out, at);
         left = left % total;
     }
