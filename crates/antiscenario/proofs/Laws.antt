@@ -3,12 +3,14 @@
 use mathlib.Core.Path.{_≡_, refl, sym, ap, _∙_, subst}
 use mathlib.Core.Bool.{Bool, true, false, cond}
 use mathlib.Core.List.{List, [], _∷_, _++_}
-use Prim.Native.Nat.{ℕ, zero, suc, _+_, _-_, _≤_}
+use Prim.Native.Nat.{ℕ, zero, suc, _+_, _*_, _-_, _≤_}
 use native.Mathlib.Omega.{arith}
-use lib.ListN.{length, set, length-append, length-set}
+use lib.ListN.{length, getD, set, length-append, length-set}
+use lib.Dec.{eqb}
+use borrow.Author.Tests.{ne-eqb, eqb-true, eqb-false}
 use Rattle.sheet.specs.declared.Line.{Line}
 use Rattle.sheet.specs.Memory.{put, lay, lineIn}
-use Rattle.antiscenario.specs.Build.{uses, marked, wanted, brought}
+use Rattle.antiscenario.specs.Build.{NoneBefore, uses, marked, wanted, brought}
 
 -- past the end nothing is stored
 pub set-past : (m : List ℕ) (i v : ℕ) → length m ≤ i → m ≡ set m i v
@@ -40,9 +42,23 @@ lay-length (l ∷ ls) i m = lay-length ls (suc i) (put i l m) ∙ put-length i l
 -- The rows that a denial brings
 
 module _ (m : List ℕ) (s : ℕ) where
+  pub none-more : (i : ℕ) → NoneBefore m s i → (getD m (6 * i) 0 ≡ s → ⊥) → NoneBefore m s (i + 1)
+  unfolding lineIn
+  none-more i f n k h e = go (eqb k i) refl
+    where
+      go : (b : Bool) → eqb k i ≡ b → ⊥
+      go true t = n (subst (λ (j : ℕ). getD m (6 * j) 0 ≡ s) (eqb-true k i t) e)
+      go false t = let z = eqb-false k i t in f k (omega arith) e
+
   pub brought-none : (marks : List ℕ) (i : ℕ) → i ≡ 0 → brought m s marks i ≡ []
   unfolding brought
   brought-none marks i e = rw e
+
+  -- a section brings nothing from before its first row
+  pub brought-before : (marks : List ℕ) (from i : ℕ) → NoneBefore m s from → i ≤ from → brought m s marks i ≡ []
+  unfolding brought wanted
+  brought-before marks from zero f h = refl
+  brought-before marks from (suc i) f h = simp (ne-eqb (lineIn m i .section) s (f i (omega arith))) (brought-before marks from i f (omega arith))
 
   pub brought-skip : (marks : List ℕ) (i : ℕ) → (i ≡ 0 → ⊥) → wanted marks s (lineIn m (i - 1)) ≡ false → brought m s marks i ≡ brought m s marks (i - 1)
   unfolding brought

@@ -5,7 +5,7 @@ use mathlib.Core.Bool.{Bool, true, false, cond}
 use mathlib.Core.List.{List, [], _∷_, _++_}
 use Prim.Native.Nat.{ℕ, zero, suc, _+_, _*_, _-_, _/_, _%_, _≤_, _<_}
 use native.Mathlib.Numerals.{add-one}
-use native.Mathlib.Nat.{mul-div-cancel-left}
+use native.Mathlib.Nat.{mul-div-cancel-left, sub-zero}
 use native.Mathlib.Omega.{arith}
 use lib.ListN.{length, getD, length-append, length-map, replicate}
 use lib.Dec.{eqb, ltb}
@@ -15,7 +15,7 @@ use Rattle.scenario.specs.Reading.{All}
 use Rattle.sheet.specs.declared.Line.{Line}
 use Rattle.sheet.specs.Reading.{rowIn}
 use Rattle.sheet.specs.Memory.{put, lay, lineIn, linesIn, weight, weighLine, weighed, product}
-use Rattle.antiscenario.specs.Build.{uses, marked, brought, lineFrom, own, denied, denialFrom, chosenFrom, ofSection, built}
+use Rattle.antiscenario.specs.Build.{NoneBefore, uses, marked, brought, lineFrom, own, denied, denialFrom, chosenFrom, ofSection, built}
 use Rattle.antiscenario.proofs.Laws.{lay-append, brought-short}
 
 -- A denial's own rows are at most three
@@ -107,6 +107,19 @@ module _ (m : List ℕ) (s i n j : ℕ) where
   pub section-end : n ≤ i → denialFrom m s i (n - i) j ≡ []
   unfolding denialFrom
   section-end h = let e : n - i ≡ 0 = omega arith in rw e
+
+-- the rows before a section's first have no denials of it
+weighs-nothing : (s : ℕ) (l : Line) → (l .section ≡ s → ⊥) → weighLine s l ≡ 0
+unfolding weighLine
+weighs-nothing s l e = simp (ne-eqb (l .section) s e)
+
+pub section-from : (m : List ℕ) (s from n j : ℕ) → NoneBefore m s from → from ≤ n → denialFrom m s from (n - from) j ≡ denialFrom m s 0 n j
+section-from m s zero n j f h = rw sub-zero
+section-from m s (suc i) n j f h =
+    let w = weighs-nothing s (lineIn m i) (f i (omega arith)) in
+    let one : suc i ≡ i + 1 = omega arith in
+    let same : j ≡ j - weighLine s (lineIn m i) = omega (arith, w) in
+    rw one (ap (denialFrom m s (i + 1) (n - (i + 1))) same ∙ section-on m s i n j (omega arith) (omega (arith, w)) ∙ section-from m s i n j (λ k l. f k (omega arith)) (omega arith))
 
 -- what is there is the whole, or nothing is left
 module _ (at : ℕ) (out : List ℕ) (xs ys : List Line) (e : xs ≡ ys) where

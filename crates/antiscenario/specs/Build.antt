@@ -1,8 +1,9 @@
 -- Antiscenario m in memory, as the code goes: rows by their numbers, six to a row.
 -- Assumes nothing.
+use mathlib.Core.Path.{_≡_}
 use mathlib.Core.Bool.{Bool, cond, _&&_}
 use mathlib.Core.List.{List, [], _∷_, _++_, map}
-use Prim.Native.Nat.{ℕ, zero, suc, _+_, _*_, _-_, _/_, _%_}
+use Prim.Native.Nat.{ℕ, zero, suc, _+_, _*_, _-_, _/_, _%_, _<_}
 use lib.ListN.{getD, set, replicate}
 use lib.Dec.{ltb, leb, eqb}
 use Rattle.scenario.specs.Rows.{Row, denying-rows, far-end}
@@ -31,6 +32,10 @@ uses l =
 unfoldable pub marked : (marks ps : List ℕ) → List ℕ
 marked marks [] = marks
 marked marks (p ∷ ps) = marked (set marks p 1) ps
+
+-- none of the rows before number `from` is of section s
+abbrev pub NoneBefore : (m : List ℕ) (s from : ℕ) → Type 0
+NoneBefore m s from = (i : ℕ) → i < from → lineIn m i .section ≡ s → ⊥
 
 -- a row of section s that introduces a marked point
 unfoldable pub wanted : (marks : List ℕ) (s : ℕ) → Line → Bool

@@ -11,7 +11,7 @@ ghost use Rattle.sheet.specs.Text.{Fits, rowText, rowsText, headText, sheetText
 ghost use Rattle.antiscenario.specs.Write.{inked, noText, writeOf, afterWrite};
 ghost use Rattle.antiscenario.specs.Judge.{refusalOf, Ready, unjudged as unjudgedOf, judgeOf};
 ghost use Rattle.scenario.specs.Reading.{All};
-ghost use Rattle.antiscenario.specs.Build.{uses, marked, wanted, brought, own, insideOf, beforeOf, denied, denialFrom, ofSection, built};
+ghost use Rattle.antiscenario.specs.Build.{NoneBefore, uses, marked, wanted, brought, own, insideOf, beforeOf, denied, denialFrom, ofSection, built};
 
 // Document 01's refusals of its own: "31 m not in 1 to N", "32 buffer too short", "34 number of positions not the number of points".
 const NO_SUCH_NUMBER: u32 = 31;
@@ -133,14 +133,30 @@ fn is_wanted(marks: &[u32], section: u32, line: sheet::Line) -> bool
     is_marked(marks, line.p)
 }
 
-// How many of the first i rows there are up to the last of the section that introduces a marked point; 0 where there is none.
-fn last_wanted(rows: &[u32], i: usize, section: u32, marks: &[u32]) -> usize
-    requires { ⌜ 6 * i ≤ length (now rows) ⌝ }
+// The number of the section's first row, from 0, or n where it has none.
+fn first_of(rows: &[u32], n: usize, section: u32) -> usize
+    requires { ⌜ 6 * n ≤ length (now rows) ⌝ }
+    ensures { λ r. ⌜ (r ≤ n) × NoneBefore (now (rows .entry)) section r ⌝ }
+{
+    let mut i: usize = 0;
+    while i < n {
+        if rows[6 * i] == section {
+            return i;
+        }
+        i += 1;
+    }
+    n
+}
+
+// How many of the first i rows there are up to the last of the section that introduces a marked point; 0 where there is none. The section
+// begins at row `from` or later.
+fn last_wanted(rows: &[u32], from: usize, i: usize, section: u32, marks: &[u32]) -> usize
+    requires { ⌜ (6 * i ≤ length (now rows)) × NoneBefore (now rows) section from ⌝ }
     ensures same { λ r. ⌜ (r ≤ i) × (brought (now (rows .entry)) section (now (marks .entry)) r ≡ brought (now (rows .entry)) section (now (marks .entry)) i) ⌝ }
     ensures last { λ r. ⌜ (0 < r → wanted (now (marks .entry)) section (lineIn (now (rows .entry)) (r - 1)) ≡ true) ⌝ }
 {
     let mut left = i;
-    while 0 < left {
+    while from < left {
         if is_wanted(marks, section, row_in(rows, left - 1)) {
             return left;
         }
@@ -150,25 +166,27 @@ fn last_wanted(rows: &[u32], i: usize, section: u32, marks: &[u32]) -> usize
 }
 
 // Stores, of the first i rows, those of the section that introduce marked points, and the points that these need in turn; gives where they end.
+// The section begins at row `from` or later.
 fn bring(
     rows: &[u32],
+    from: usize,
     i: usize,
     section: u32,
     marks: &mut [u32],
     out: &mut [u32],
     at: usize,
 ) -> usize
-    requires { ⌜ (6 * i ≤ length (now rows)) × (i ≤ 176) × (at ≤ 1500) ⌝ }
+    requires { ⌜ (6 * i ≤ length (now rows)) × (i ≤ 176) × (at ≤ 1500) × NoneBefore (now rows) section from ⌝ }
     ensures ends { λ r. ⌜ r ≡ at + length (brought (now (rows .entry)) section (now (marks .entry)) i) ⌝ }
     ensures memory { λ r. ⌜ now (out .exit) ≡ lay at (brought (now (rows .entry)) section (now (marks .entry)) i) (now (out .entry)) ⌝ }
 {
-    let left = last_wanted(rows, i, section, marks);
+    let left = last_wanted(rows, from, i, section, marks);
     if left == 0 {
         return at;
     }
     let line = row_in(rows, left - 1);
     mark_uses(marks, line);
-    let end = bring(rows, left - 1, section, marks, out, at);
+    let end = bring(rows, from, left - 1, section, marks, out, at);
     put_row(out, end, line);
     end + 1
 }
@@ -266,16 +284,16 @@ fn own_rows(line: sheet::Line, v: u64, out: &mut [u32], at: usize) -> usize
     at + 1
 }
 
-// Stores denial v of row number i, from 0: the rows that it brings and its own; gives where they end.
-fn deny_row(rows: &[u32], i: usize, v: u64, out: &mut [u32], at: usize) -> usize
-    requires { ⌜ (6 * i + 6 ≤ length (now rows)) × (i < 176) × (at ≤ 1500) × (lineIn (now rows) i .section ≤ 100) × (v < weighLine (lineIn (now rows) i .section) (lineIn (now rows) i)) ⌝ }
+// Stores denial v of row number i, from 0: the rows that it brings and its own; gives where they end. Its section begins at row `from` or later.
+fn deny_row(rows: &[u32], from: usize, i: usize, v: u64, out: &mut [u32], at: usize) -> usize
+    requires { ⌜ (6 * i + 6 ≤ length (now rows)) × (i < 176) × (at ≤ 1500) × (lineIn (now rows) i .section ≤ 100) × (v < weighLine (lineIn (now rows) i .section) (lineIn (now rows) i)) × NoneBefore (now rows) (lineIn (now rows) i .section) from ⌝ }
     ensures ends { λ r. ⌜ r ≡ at + length (denied (now (rows .entry)) i v) ⌝ }
     ensures memory { λ r. ⌜ now (out .exit) ≡ lay at (denied (now (rows .entry)) i v) (now (out .entry)) ⌝ }
 {
     let line = row_in(rows, i);
     let mut marks = [0u32; 100];
     mark_uses(&mut marks, line);
-    let end = bring(rows, i, line.section, &mut marks, out, at);
+    let end = bring(rows, from, i, line.section, &mut marks, out, at);
     own_rows(line, v, out, end)
 }
 
@@ -285,12 +303,13 @@ fn deny_section(rows: &[u32], n: usize, section: u32, j: u64, out: &mut [u32], a
     ensures ends { λ r. ⌜ r ≡ at + length (denialFrom (now (rows .entry)) section 0 n j) ⌝ }
     ensures memory { λ r. ⌜ now (out .exit) ≡ lay at (denialFrom (now (rows .entry)) section 0 n j) (now (out .entry)) ⌝ }
 {
-    let mut i: usize = 0;
+    let from = first_of(rows, n, section);
+    let mut i = from;
     let mut left = j;
     while i < n {
         let w = sheet::weigh_at(rows, i, section);
         if left < w {
-            return deny_row(rows, i, left, out, at);
+            return deny_row(rows, from, i, left, out, at);
         }
         left -= w;
         i += 1;
@@ -324,13 +343,15 @@ pub fn build(rows: &[u32], n: usize, k: u32, count: u64, j: u64, out: &mut [u32]
     ensures ends { λ r. ⌜ r ≡ length (built (now (rows .entry)) n k j) ⌝ }
     ensures memory { λ r. ⌜ now (out .exit) ≡ lay 0 (built (now (rows .entry)) n k j) (now (out .entry)) ⌝ }
 {
+    let mut denials = [0u64; sheet::SECTIONS];
+    sheet::weigh_sections(rows, n, &mut denials);
     let mut at = copy_section(rows, n, 0, out);
     let mut s: u32 = 0;
     let mut total = count;
     let mut left = j;
     while s < k {
         s += 1;
-        total = total / sheet::denials_of(rows, n, s);
+        total = total / denials[s as usize];
         at = deny_section(rows, n, s, left / total, out, at);
         left = left % total;
     }

@@ -34,8 +34,8 @@ decimal-long (suc n) m v (b ∷ l) h k =
 pub digits-below : (i v d : ℕ) → v < 10 ^ i → d ≤ 9 → v * 10 + d < 10 ^ (i + 1)
 digits-below i v d h k = rw add-one (omega (arith, pow-suc 10 i))
 
-pub ten-digits : (i v : ℕ) → i ≤ 10 → v < 10 ^ i → v < 10000000000
-ten-digits i v h k = lt-of-lt-of-le k (pow-le-pow-right {n = 10} (lit< tt) {i = i} {j = 10} h)
+pub fewer-digits : (n i v : ℕ) → i ≤ n → v < 10 ^ i → v < 10 ^ n
+fewer-digits n i v h k = lt-of-lt-of-le k (pow-le-pow-right {n = 10} (lit< tt) {i = i} {j = n} h)
 
 pub space-end : (s : List ℕ) (i : ℕ) → length s ≤ i → drop i s ≡ afterSpaces (drop i s)
 space-end s i h = rw (drop-of-length-le s h)

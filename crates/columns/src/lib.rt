@@ -45,7 +45,8 @@ fn spaces(s: &[u8]) -> usize
     i
 }
 
-// The whole of s as a numeral. So few digits fit 64 bits, and LARGEST is asked about once; more have a leading zero or are over it.
+// The whole of s as a numeral. As many digits as LARGEST's fit 64 bits, and it is asked about at the end; fewer are below it, and more
+// have a leading zero or are over it.
 fn digits(s: &[u8]) -> Field
     ensures { λ r. ⌜ r ≡ numeral (now (s .entry)) ⌝ }
 {
@@ -72,6 +73,9 @@ fn digits(s: &[u8]) -> Field
         }
         v = v * 10 + (b as u64 - ZERO as u64);
         i += 1;
+    }
+    if s.len() < MOST_DIGITS {
+        return Field::Value(v as u32);
     }
     if LARGEST < v {
         return Field::Bad;

@@ -1,15 +1,18 @@
 -- The count over rows in memory: the denials of a kind, a row more, a section more, and that the product fits.
 -- Assumes nothing.
-use mathlib.Core.Path.{_≡_, sym}
+use mathlib.Core.Path.{_≡_, refl, sym, ap, _∙_}
+use mathlib.Core.Bool.{Bool, true, false}
 use mathlib.Core.List.{List}
 use Prim.Native.Nat.{ℕ, suc, _+_, _*_, _-_, _^_, _≤_, _<_}
-use native.Mathlib.Nat.{mul-assoc, mul-le-mul, pow-suc, pow-le-pow-right, le-trans, lt-of-le-of-lt}
+use native.Mathlib.Nat.{mul-assoc, mul-le-mul, pow-suc, pow-le-pow-right, le-trans, lt-of-le-of-lt, sub-zero}
 use native.Mathlib.Numerals.{add-one}
 use native.Mathlib.Omega.{arith}
-use lib.Dec.{lit<}
-use borrow.Author.Tests.{ne-eqb, le-leb, lt-leb}
+use lib.Dec.{eqb, lit<}
+use lib.ListN.{length, getD, set, replicate, length-set, getD-replicate}
+use lib.Seq.{getD-set-same, getD-set-other}
+use borrow.Author.Tests.{eq-eqb, ne-eqb, eqb-true, eqb-false, le-leb, lt-leb}
 use Rattle.sheet.specs.declared.Line.{Line}
-use Rattle.sheet.specs.Memory.{lineIn, linesIn, weightFree, weight, weighLine, weighed, product}
+use Rattle.sheet.specs.Memory.{lineIn, linesIn, weightFree, weight, weighLine, weighed, Weighed, product}
 
 module _ (k p q : ℕ) where
   pub weight-1 : k ≡ 1 → 0 ≡ weight k p q
@@ -44,6 +47,63 @@ weighed-step s m i n sum h = let e : n - i ≡ suc (n - (i + 1)) = omega arith i
 pub weighed-end : (s : ℕ) (m : List ℕ) (i n sum : ℕ) → n ≤ i → sum ≡ sum + weighed s (linesIn m i (n - i))
 unfolding weighed linesIn
 weighed-end s m i n sum h = let e : n - i ≡ 0 = omega arith in rw e (omega arith)
+
+-- The denials by section
+
+-- the sums so far, the rows from number i on still to come
+pub record Sums (m d : List ℕ) (i n : ℕ) : Type 0 where
+  pub long : length d ≡ 7
+  pub sum : (s : ℕ) → s < 7 → getD d s 0 + weighed s (linesIn m i (n - i)) ≡ weighed s (linesIn m 0 n)
+  pub low : (s : ℕ) → s < 7 → getD d s 0 ≤ 2 * i
+
+pub sums-none : (m d : List ℕ) (n : ℕ) → d ≡ replicate 7 0 → Sums m d 0 n
+sums-none m d n e =
+    record {
+      long = ap length e;
+      sum = λ s h. rw (e, sub-zero) (omega (arith, getD-replicate {A = ℕ} 7 s 0 0 h));
+      low = λ s h. rw e (omega (arith, getD-replicate {A = ℕ} 7 s 0 0 h));
+    }
+
+weighs-own : (m : List ℕ) (i s : ℕ) → getD m (6 * i) 0 ≡ s → weighLine s (lineIn m i) ≡ weight (getD m (6 * i + 1) 0) (getD m (6 * i + 2) 0) (getD m (6 * i + 3) 0)
+unfolding weighLine lineIn
+weighs-own m i s e = simp (eq-eqb _ _ e)
+
+weighs-none : (m : List ℕ) (i s : ℕ) → (getD m (6 * i) 0 ≡ s → ⊥) → weighLine s (lineIn m i) ≡ 0
+unfolding weighLine lineIn
+weighs-none m i s e = simp (ne-eqb _ _ e)
+
+module _ (m d : List ℕ) (i n : ℕ) (h : i < n) (S : Sums m d i n) where
+  pub sums-skip : 7 ≤ getD m (6 * i) 0 → Sums m d (i + 1) n
+  sums-skip far =
+      record {
+        long = S .long;
+        sum = λ s l. omega (arith, S .sum s l, weighed-step s m i n (getD d s 0) h, weighs-none m i s (λ e. omega arith));
+        low = λ s l. omega (arith, S .low s l);
+      }
+
+  pub sums-add : (t w : ℕ) → getD m (6 * i) 0 ≡ t → t < 7 → w ≡ weight (getD m (6 * i + 1) 0) (getD m (6 * i + 2) 0) (getD m (6 * i + 3) 0) → w ≤ 2
+      → Sums m (set d t (getD d t 0 + w)) (i + 1) n
+  sums-add t w e l q k = record { long = length-set d t (getD d t 0 + w) ∙ S .long; sum = λ s b. at s b (eqb s t) refl; low = λ s b. few s b (eqb s t) refl }
+    where
+      at : (s : ℕ) → s < 7 → (b : Bool) → eqb s t ≡ b → getD (set d t (getD d t 0 + w)) s 0 + weighed s (linesIn m (i + 1) (n - (i + 1))) ≡ weighed s (linesIn m 0 n)
+      at s b true f =
+          let z = eqb-true s t f in
+          rw z (omega (arith, getD-set-same d t (getD d t 0 + w) 0 (omega (arith, S .long)), S .sum t l, weighed-step t m i n (getD d t 0) h, weighs-own m i t e, q))
+      at s b false f =
+          let z = eqb-false s t f in
+          omega (arith, getD-set-other d t s (getD d t 0 + w) 0 z, S .sum s b, weighed-step s m i n (getD d s 0) h, weighs-none m i s (λ x. z (sym x ∙ e)))
+
+      few : (s : ℕ) → s < 7 → (b : Bool) → eqb s t ≡ b → getD (set d t (getD d t 0 + w)) s 0 ≤ 2 * (i + 1)
+      few s b true f = let z = eqb-true s t f in rw z (omega (arith, getD-set-same d t (getD d t 0 + w) 0 (omega (arith, S .long)), S .low t l))
+      few s b false f = omega (arith, getD-set-other d t s (getD d t 0 + w) 0 (eqb-false s t f), S .low s b)
+
+pub sums-all : (m d : List ℕ) (i n : ℕ) → n ≤ i → i ≤ 176 → Sums m d i n → Weighed d (linesIn m 0 n)
+sums-all m d i n h k S =
+    record {
+      long = S .long;
+      denials-of = λ s l. weighed-end s m i n (getD d s 0) h ∙ S .sum s l;
+      few = λ s l. omega (arith, S .low s l);
+    }
 
 -- a section more: i sections are in the product
 pub product-step : (ls : List Line) (i k total : ℕ) → i < k → total * product (i + 1) (k - i) ls ≡ total * weighed (i + 1) ls * product (i + 1 + 1) (k - (i + 1)) ls

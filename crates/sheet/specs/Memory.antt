@@ -1,9 +1,10 @@
 -- Rows in memory, six numbers to a row, and N as a product over them.
 -- Assumes nothing.
+use mathlib.Core.Path.{_≡_}
 use mathlib.Core.Bool.{Bool, cond, _||_, _&&_}
 use mathlib.Core.List.{List, [], _∷_}
-use Prim.Native.Nat.{ℕ, zero, suc, _+_, _*_}
-use lib.ListN.{getD, set}
+use Prim.Native.Nat.{ℕ, zero, suc, _+_, _*_, _≤_, _<_}
+use lib.ListN.{length, getD, set}
 use lib.Dec.{leb, eqb}
 use Rattle.sheet.specs.declared.Line.{Line}
 use Rattle.sheet.specs.Row.{six}
@@ -50,6 +51,12 @@ weighLine i l = cond (eqb (l .section) i) (weight (l .kind) (l .p) (l .q)) 0
 unfoldable pub weighed : ℕ → List Line → ℕ
 weighed i [] = 0
 weighed i (l ∷ ls) = weighLine i l + weighed i ls
+
+-- how many denials the sections 0 to 6 have, by their numbers; none has more than two for each of 176 rows
+pub record Weighed (denials : List ℕ) (ls : List Line) : Type 0 where
+  pub long : length denials ≡ 7
+  pub denials-of : (s : ℕ) → s < 7 → getD denials s 0 ≡ weighed s ls
+  pub few : (s : ℕ) → s < 7 → getD denials s 0 ≤ 352
 
 -- "the product of the denials per consequent", sections i, i + 1, ..
 unfoldable pub product : (i left : ℕ) → List Line → ℕ

@@ -1,10 +1,10 @@
 // Reading a sheet, in the order of document 01: first line, rows, N. The public operation is `read_sheet`; `load_sheet` fills lent memory for the others.
 ghost use mathlib.Core.Path.{_≡_};
 ghost use Prim.Native.Nat.{_+_, _*_, _≤_, _<_};
-ghost use lib.ListN.{length};
+ghost use lib.ListN.{length, replicate};
 ghost use Rattle.sheet.specs.Row.{lineOf, enter, advance, ordinary, known, kindFits, pFits, originFits, qFits, restFits, roomFits, refusalWithin, refusal, isDue, bothOrdinary, ordinaryBut, knownBut, setOnly, bothZero, start};
 ghost use Rattle.sheet.specs.Reading.{headed, headOf, rowsFrom, taken, refused, answer, countOf};
-ghost use Rattle.sheet.specs.Memory.{put, lay, linesIn, edge, weightFree, weight, weighLine, lineIn, weighed, product};
+ghost use Rattle.sheet.specs.Memory.{put, lay, linesIn, edge, weightFree, weight, weighLine, lineIn, Weighed, product};
 
 // Document 01, "Sheet": at most 6 consequents, 176 rows, 32 of them in the antecedent and 24 in a consequent; N is at most 4,096.
 const MOST_CONSEQUENTS: u32 = 6;
@@ -16,6 +16,9 @@ const MOST_ANTECEDENT_ROWS: u32 = 32;
 const MOST_CONSEQUENT_ROWS: u32 = 24;
 
 const MOST_ANTISCENARIOS: u64 = 4096;
+
+// The antecedent and the consequents.
+pub const SECTIONS: usize = 7;
 
 // Points: 0 is the start and 99 the close; the antecedent introduces up to 4, a consequent up to 8.
 const START: u32 = 0;
@@ -552,18 +555,21 @@ pub fn weigh_at(rows: &[u32], i: usize, section: u32) -> u64
     weigh(rows[at + 1], rows[at + 2], rows[at + 3])
 }
 
-// How many denials a section has.
-pub fn denials_of(rows: &[u32], n: usize, section: u32) -> u64
-    requires { ⌜ (n ≤ 176) × (1056 ≤ length (now rows)) ⌝ }
-    ensures { λ r. ⌜ (r ≡ weighed section (linesIn (now (rows .entry)) 0 n)) × (r ≤ 352) ⌝ }
+// How many denials each section has, by its number, in one walk over the rows.
+pub fn weigh_sections(rows: &[u32], n: usize, denials: &mut [u64; SECTIONS])
+    requires { ⌜ (n ≤ 176) × (1056 ≤ length (now rows)) × (now denials ≡ replicate 7 0) ⌝ }
+    ensures { λ _. ⌜ Weighed (now (denials .exit)) (linesIn (now (rows .entry)) 0 n) ⌝ }
 {
-    let mut sum: u64 = 0;
     let mut i: usize = 0;
     while i < n {
-        sum += weigh_at(rows, i, section);
+        let at = 6 * i;
         i += 1;
+        let section = rows[at] as usize;
+        if SECTIONS <= section {
+            continue;
+        }
+        denials[section] += weigh(rows[at + 1], rows[at + 2], rows[at + 3]);
     }
-    sum
 }
 
 // A factor more, whatever came before: a factor 0 may follow a product over 4,096.
@@ -579,11 +585,14 @@ fn product_of(rows: &[u32], n: usize, k: u32) -> u64
     requires { ⌜ (n ≤ 176) × (k ≤ 6) × (1056 ≤ length (now rows)) ⌝ }
     ensures { λ r. ⌜ r ≡ product 1 k (linesIn (now (rows .entry)) 0 n) ⌝ }
 {
+    let mut denials = [0u64; SECTIONS];
+    weigh_sections(rows, n, &mut denials);
+    let most = k as usize;
     let mut total: u64 = 1;
-    let mut i: u32 = 0;
-    while i < k {
+    let mut i: usize = 0;
+    while i < most {
         i += 1;
-        total = multiplied(total, denials_of(rows, n, i));
+        total = multiplied(total, denials[i]);
     }
     total
 }

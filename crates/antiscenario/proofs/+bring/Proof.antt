@@ -18,7 +18,7 @@ use Rattle.antiscenario.proofs.+bring.{statement}
 use Rattle.antiscenario.proofs.+bring.Tie.{close}
 
 abbrev μ-bring : Measures 3 bring-kinds.ps ℕ
-μ-bring κs a = a .1 .0
+μ-bring κs a = a .1 .1 .0
 
 abbrev bring-at : ℕ → In 3 bring-kinds.ps
 bring-at t = and 3 bring-kinds.ps (is 3 bring-kinds.ps μ-bring t) bring.Pre
@@ -52,7 +52,7 @@ pub +bring-spec : {M : Type 1} → statement M
     (λ c κs. search needs)
     (λ c κs. search needs)
     (λ c. search needs)
-    (λ c κs. search needs)
+    (λ c κs. let start = c .before .before .before .before .before .before .before .before .before .before .before .before .before in (search needs, (search needs, search needs, search needs, start .pre .1 .3)))
     (λ c κs.
     let b = c .before .before .before .before .before in
     let u = b .before .before .before .before .before in

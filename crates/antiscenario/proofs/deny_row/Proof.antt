@@ -1,11 +1,19 @@
 -- `deny_row` meets its contract: the rows that are brought, and the own rows after them.
 -- Assumes nothing.
+use mathlib.Core.Path.{sym, subst}
+use Rattle.sheet.specs.declared.Line.{Line}
+use Rattle.antiscenario.specs.Build.{NoneBefore}
 use Rattle.antiscenario.proofs.Laws.{brought-short}
 use Rattle.antiscenario.proofs.Steps.{row-counts, row-section, row-done}
 use native.Mathlib.Omega.{arith}
 use borrow.Author.Needs.{needs}
 use Rattle.antiscenario.proofs.deny_row.Statement.{statement}
 use Rattle.antiscenario.proofs.deny_row.Tie as tie
+
+bring-requires : tie.Need-bring-requires
+bring-requires c κs =
+    let start = c .before .before .before .before .before .before .before .before in
+    (search needs, search needs, search needs, subst (λ (l : Line). NoneBefore (start .args .rows .now) (l .section) (start .args .from)) (sym (c .before .before .before .before .before .row-in .ensures)) (start .pre .5))
 
 own-rows-requires : tie.Need-own-rows-requires
 own-rows-requires c κs =
@@ -30,7 +38,7 @@ deny-row-spec =
     (λ c. search needs)
     (λ c κs. search needs)
     (λ c. search needs)
-    (λ c κs. search needs)
+    bring-requires
     own-rows-requires
     (λ c. search needs)
     returns)

@@ -1,30 +1,36 @@
 -- `deny_section` meets its contract: denial `left` of the rows from number i on is denial j of all.
 -- Assumes nothing.
-use Rattle.antiscenario.proofs.Steps.{same-rows-from, section-hit, section-on, section-end, counts, counts-own, no-rows}
+use Rattle.antiscenario.proofs.Steps.{same-rows-from, section-from, section-hit, section-on, section-end, counts, counts-own, no-rows}
 use borrow.Author.Needs.{needs}
 use mathlib.Core.Path.{_≡_, refl, sym, ap, _∙_, subst}
 use Prim.Native.Nat.{ℕ, _<_, _≤_, _-_}
 use native.Mathlib.Omega.{arith}
-use native.Mathlib.Nat.{sub-zero}
 use lib.ListN.{length}
 use Rattle.antiscenario.specs.Build.{denialFrom}
 use Rattle.antiscenario.proofs.deny_section.Statement.{statement}
 use Rattle.antiscenario.proofs.deny_section.Tie as tie
 
 abbrev Inv-loop : tie.InvT-loop
-Inv-loop rows n section j out₀ at i₀ left₀ out i left = (i ≤ n) × (out ≡ out₀) × (denialFrom rows section i (n - i) left ≡ denialFrom rows section 0 n j)
+Inv-loop rows n section j out₀ at from i₀ left₀ out i left = (i ≤ n) × (out ≡ out₀) × (denialFrom rows section i (n - i) left ≡ denialFrom rows section 0 n j)
 
 abbrev μ-loop : tie.MeasureT-loop
-μ-loop rows n section j out₀ at i₀ left₀ out i left = n - i
+μ-loop rows n section j out₀ at from i₀ left₀ out i left = n - i
 
 loop-holds : tie.Need-loop-holds Inv-loop μ-loop
-loop-holds c = (search needs, refl, rw sub-zero refl)
+loop-holds c = (search needs, refl, section-from _ _ _ _ _ (c .first-of .ensures .1) (c .first-of .ensures .0))
 
 deny-row-requires : tie.Need-deny-row-requires Inv-loop μ-loop
 deny-row-requires c κs =
     let w = c .before .before .weigh-at .ensures .0 in
-    let h = subst (λ (x : ℕ). c .before .before .before .before .loop .left < x) w (c .before .if1 .taken) in
-    (search needs, search needs, search needs, omega (arith, counts _ _ _ h .0, c .before .before .before .before .before .before .before .pre), counts-own _ _ _ h)
+    let l = c .before .before .before .before .loop in
+    let h = subst (λ (x : ℕ). l .left < x) w (c .before .if1 .taken) in
+    let start = c .before .before .before .before .before .before .before .before in
+    let a = start .args in
+    let own = counts _ _ _ h .0 in
+    (search needs, search needs, search needs, omega (arith, own, start .pre), counts-own _ _ _ h, λ k b e. c .before .before .before .before .before .first-of .ensures .1 k b (e ∙ own))
+
+same-length : tie.Need-same-length Inv-loop μ-loop
+same-length c = let h = ap length (c .before .before .before .before .before .before .before .loop .inv .1) in search needs
 
 returns : tie.Need-returns Inv-loop μ-loop
 returns c =
@@ -53,10 +59,11 @@ deny-section-spec =
     (tie.spec
     Inv-loop
     μ-loop
+    (λ c κs. search needs)
     loop-holds
     (λ c κs. search needs)
     deny-row-requires
-    (λ c. search needs)
+    same-length
     returns
     (λ c. search needs)
     (λ c. search needs)

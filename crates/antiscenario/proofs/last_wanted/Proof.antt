@@ -2,18 +2,19 @@
 -- Assumes nothing.
 use borrow.Author.Needs.{needs}
 use mathlib.Core.Path.{_≡_, refl, sym, ap, _∙_}
-use Prim.Native.Nat.{_≤_}
+use mathlib.Core.List.{[]}
+use Prim.Native.Nat.{ℕ, _≤_}
 use native.Mathlib.Omega.{arith}
 use Rattle.antiscenario.specs.Build.{wanted, brought}
-use Rattle.antiscenario.proofs.Laws.{brought-skip}
+use Rattle.antiscenario.proofs.Laws.{brought-skip, brought-before}
 use Rattle.antiscenario.proofs.last_wanted.Statement.{statement}
 use Rattle.antiscenario.proofs.last_wanted.Tie as tie
 
 abbrev Inv-loop : tie.InvT-loop
-Inv-loop rows i section marks left₀ left = (left ≤ i) × (brought rows section marks left ≡ brought rows section marks i)
+Inv-loop rows from i section marks left₀ left = (left ≤ i) × (brought rows section marks left ≡ brought rows section marks i)
 
 abbrev μ-loop : tie.MeasureT-loop
-μ-loop rows i section marks left₀ left = left
+μ-loop rows from i section marks left₀ left = left
 
 loop-holds : tie.Need-loop-holds Inv-loop μ-loop
 loop-holds c = (search needs, refl)
@@ -34,8 +35,10 @@ loop-again c =
 returns-2 : tie.Need-returns-2 Inv-loop μ-loop
 returns-2 c =
     let l = c .before .loop in
-    let e : l .left ≡ 0 = search needs in
-    ((search needs, rw e at (l .inv .1)), λ h. absurd (omega arith))
+    let start = c .before .before .before .before in
+    let a = start .args in
+    let none : (k : ℕ) → k ≤ a .from → brought (a .rows .now) (a .section) (a .marks .now) k ≡ [] = λ k h. brought-before (a .rows .now) (a .section) (a .marks .now) (a .from) k (start .pre .1) h in
+    ((search needs, none 0 (omega arith) ∙ sym (none (l .left) (c .loop-test .left)) ∙ l .inv .1), λ h. absurd (omega arith))
 
 pub last-wanted-spec : {M : Type 1} → statement M
 last-wanted-spec =

@@ -7,7 +7,7 @@ use Prim.Native.Nat.{_^_, _≤_, _<_, _-_}
 use native.Mathlib.Omega.{arith}
 use lib.ListN.{length, drop}
 use Rattle.columns.specs.Number.{numeral, scan}
-use Rattle.columns.proofs.Scan.{scan-low, scan-high, scan-on, scan-end, scan-end-over, digits-below, ten-digits, led-empty, led-long, led-zero, led-one, led-more}
+use Rattle.columns.proofs.Scan.{scan-low, scan-high, scan-on, scan-end, scan-end-over, digits-below, fewer-digits, led-empty, led-long, led-zero, led-one, led-more}
 use Rattle.columns.proofs.digits.Statement.{statement}
 use Rattle.columns.proofs.digits.Tie as tie
 
@@ -19,7 +19,7 @@ abbrev μ-loop : tie.MeasureT-loop
 
 -- so few digits are far below 64 bits
 small : (c : tie.At-loop Inv-loop μ-loop) → c .loop .v < 10000000000
-small c = ten-digits (c .loop .i) (c .loop .v) (omega (arith, c .loop .inv .0, c .before .before .before .if2 .left)) (c .loop .inv .1)
+small c = fewer-digits 10 (c .loop .i) (c .loop .v) (omega (arith, c .loop .inv .0, c .before .before .before .if2 .left)) (c .loop .inv .1)
 
 returns : tie.Need-returns Inv-loop μ-loop
 returns c = sym (led-empty _ (c .if1 .taken))
@@ -56,15 +56,27 @@ loop-again c =
     let at = c .before .before .before .before in
     (search needs, digits-below (at .loop .i) (at .loop .v) _ (at .loop .inv .1) (search needs), at .loop .inv .2 ∙ scan-on _ (at .loop .i) (search needs) (at .loop .v) (search needs) (search needs))
 
+-- fewer digits than the largest has are below it
+below : (c : tie.Then7 Inv-loop μ-loop) → c .before .before .loop .v < 1000000000
+below c = let l = c .before .before .loop in fewer-digits 9 (l .i) (l .v) (omega (arith, l .inv .0, c .if7 .taken)) (l .inv .1)
+
+cast-t19 : tie.Need-cast-t19 Inv-loop μ-loop
+cast-t19 c = let l = below c in search needs
+
 returns-6 : tie.Need-returns-6 Inv-loop μ-loop
 returns-6 c =
     let at = c .before .before in
-    sym (at .loop .inv .2 ∙ scan-end-over _ (at .loop .i) (at .loop .v) (c .before .loop-test .left) (c .if7 .taken))
+    sym (at .loop .inv .2 ∙ scan-end _ (at .loop .i) (at .loop .v) (c .before .loop-test .left) (omega (arith, below c)))
 
 returns-7 : tie.Need-returns-7 Inv-loop μ-loop
 returns-7 c =
-    let at = c .before .before in
-    sym (at .loop .inv .2 ∙ scan-end _ (at .loop .i) (at .loop .v) (c .before .loop-test .left) (search needs))
+    let at = c .before .before .before in
+    sym (at .loop .inv .2 ∙ scan-end-over _ (at .loop .i) (at .loop .v) (c .before .before .loop-test .left) (c .if8 .taken))
+
+returns-8 : tie.Need-returns-8 Inv-loop μ-loop
+returns-8 c =
+    let at = c .before .before .before in
+    sym (at .loop .inv .2 ∙ scan-end _ (at .loop .i) (at .loop .v) (c .before .before .loop-test .left) (search needs))
 
 pub digits-spec : {M : Type 1} → statement M
 digits-spec =
@@ -88,6 +100,8 @@ digits-spec =
     (λ c. search needs)
     (λ c. search needs)
     loop-again
+    cast-t19
     returns-6
+    returns-7
     (λ c. search needs)
-    returns-7)
+    returns-8)
