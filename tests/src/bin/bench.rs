@@ -1,4 +1,4 @@
-//! The proved code through the C interface beside plain Rust, in one run, as ratios: bench [check | all].
+//! The proved code through the C interface beside plain Rust, in one run, as ratios: bench [check].
 use satskhubo_tests::generate::logs::{mixed, uniform};
 use satskhubo_tests::generate::sheets::sheet_s;
 use satskhubo_tests::host::Host;
@@ -190,11 +190,9 @@ fn scans_text(n: u32) -> Vec<u8> {
     uniform(n, 3).text()
 }
 
-/// Without the word `all`, one number in seventeen stands for the rest; seventeen, so that every consequent's choice moves.
-fn search_many(every: bool) {
-    let step = if every { 1 } else { 17 };
-    let numbers: Vec<u64> = (1..=4096).step_by(step).collect();
-    search(&format!("search {} of N = 4,096", numbers.len()), &many_antiscenarios(), &numbers, mixed_text);
+fn search_many() {
+    let numbers: Vec<u64> = (1..=4096).collect();
+    search("search all of N = 4,096", &many_antiscenarios(), &numbers, mixed_text);
 }
 
 fn main() {
@@ -210,7 +208,7 @@ fn main() {
     for number in 1..=4 {
         search(&format!("search S, number {number}"), &sheet_s(), &[number], mixed_text);
     }
-    search_many(word == "all");
+    search_many();
     search("timed case: none", &timed_case(), &[1], scans_text);
     check("check S", &sheet_s(), mixed_text);
     check("standing measure", &standing_measure(), scans_text);
