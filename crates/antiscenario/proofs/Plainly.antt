@@ -8,8 +8,8 @@ use lib.ListN.{length, take, drop, getD, length-append, length-drop, take-append
 use lib.Seq.{drop-append-seam, take-append-seam, drop-drop, drop-cons, getD-drop, length-take-le}
 use Rattle.columns.specs.Number.{fieldAt}
 use Rattle.columns.specs.Spell.{spell}
-use Rattle.columns.specs.declared.Field.the-variants.{Value}
-use Rattle.columns.proofs.Spelling.{spell-length, spell-read, only-spelling}
+use Rattle.columns.proofs.Spelling.{spell-read}
+use Rattle.columns.proofs.Lines.{past, peel}
 use Rattle.scenario.specs.Reading.{All}
 use Rattle.sheet.specs.declared.Line.{Line}
 use Rattle.sheet.specs.Row.{lineOf}
@@ -18,12 +18,6 @@ use Rattle.sheet.specs.Text.{Fits, rowText, rowsText, headText, sheetText}
 use Rattle.sheet.proofs.Texts.{row-read, row-only}
 use Rattle.antiscenario.specs.Plain.{RowsAs, ReadsAs}
 use Rattle.antiscenario.proofs.Ink.{row-length, head-length, sheet-length}
-
-peel : (w v : ℕ) (t : List ℕ) → fieldAt t w ≡ Value v → t ≡ spell w v ++ drop w t
-peel w v t e = sym (take-append-drop w t) ∙ ap (λ (x : List ℕ). x ++ drop w t) (only-spelling t w v e .1)
-
-past : (w m v : ℕ) (rest : List ℕ) → drop (w + m) (spell w v ++ rest) ≡ drop m rest
-past w m v rest = sym (drop-drop m w (spell w v ++ rest)) ∙ ap (drop m) (ap (λ (n : ℕ). drop n (spell w v ++ rest)) (sym (spell-length w v)) ∙ drop-append-seam (spell w v) rest)
 
 -- No other text
 
@@ -81,7 +75,7 @@ text-says k ls hk hn F =
     record {
       size = sheet-length k ls;
       first = ap (λ (t : List ℕ). fieldAt t 3) two ∙ spell-read 3 k (spell 3 n ++ (10 ∷ rest)) (omega arith) (omega arith) (omega arith);
-      second = ap (λ (t : List ℕ). fieldAt (drop 3 t) 3) two ∙ ap (λ (t : List ℕ). fieldAt t 3) (past 3 0 k (spell 3 n ++ (10 ∷ rest))) ∙ spell-read 3 n (10 ∷ rest) (omega arith) (omega arith) (omega arith);
-      end = ap (λ (t : List ℕ). getD t 6 0) two ∙ sym (getD-drop 6 (spell 3 k ++ (spell 3 n ++ (10 ∷ rest))) 0 0) ∙ ap (λ (t : List ℕ). getD t 0 0) (past 3 3 k (spell 3 n ++ (10 ∷ rest)) ∙ past 3 0 n (10 ∷ rest));
+      second = ap (λ (t : List ℕ). fieldAt (drop 3 t) 3) two ∙ ap (λ (t : List ℕ). fieldAt t 3) (past 3 k 0 (spell 3 n ++ (10 ∷ rest))) ∙ spell-read 3 n (10 ∷ rest) (omega arith) (omega arith) (omega arith);
+      end = ap (λ (t : List ℕ). getD t 6 0) two ∙ sym (getD-drop 6 (spell 3 k ++ (spell 3 n ++ (10 ∷ rest))) 0 0) ∙ ap (λ (t : List ℕ). getD t 0 0) (past 3 k 3 (spell 3 n ++ (10 ∷ rest)) ∙ past 3 n 0 (10 ∷ rest));
       rows = rows-say ls (headText k n) 0 (head-length k n) F;
     }

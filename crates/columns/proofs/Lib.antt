@@ -6,3 +6,4 @@ pub mod Fits
 pub mod Ink
 pub mod Entering
 pub mod Fields
+pub mod Lines

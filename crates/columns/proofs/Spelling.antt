@@ -205,7 +205,7 @@ record Numeral (l : List ℕ) (v : ℕ) : Type 0 where
   digits : allDigits l ≡ true
   value : decimal 0 l ≡ v
 
-bad-not : (v : ℕ) → Bad ≡ Value v → ⊥
+pub bad-not : (v : ℕ) → Bad ≡ Value v → ⊥
 bad-not v h = let z : _≡_ {A = ℕ} 0 1 = cc in omega arith
 
 numeral-is : (l : List ℕ) (v : ℕ) → numeral l ≡ Value v → Numeral l v

@@ -1,5 +1,4 @@
 pub mod Loop
-pub mod Fields
 pub mod Whole
 pub mod Ending
 pub mod Texts

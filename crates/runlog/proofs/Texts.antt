@@ -15,7 +15,7 @@ use Rattle.runlog.specs.Numbers.{most-lines, last-tick}
 use Rattle.runlog.specs.declared.LineRead.the-variants.{Line}
 use Rattle.runlog.specs.Log.{headed, headOf, lineOf, Taken, lineBytes, linesFrom, taken, accepted, closing, answer, logOf}
 use Rattle.runlog.specs.Text.{headText, lineText, linesText, logText, Ordered, ValidLog}
-use Rattle.runlog.proofs.Fields.{past}
+use Rattle.columns.proofs.Lines.{past}
 
 -- The first line, with the lines after it
 

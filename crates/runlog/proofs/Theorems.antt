@@ -14,7 +14,7 @@ use Rattle.scenario.proofs.Logs.{laws}
 use Rattle.runlog.specs.declared.Answer.{Answer}
 use Rattle.runlog.specs.Log.{headOf, taken, accepted, answer, logOf, runIn}
 use Rattle.runlog.specs.Text.{headText, logText, Ordered, ValidLog}
-use Rattle.runlog.proofs.Fields.{peel, value-fits}
+use Rattle.columns.proofs.Lines.{peel, value-fits}
 use Rattle.runlog.proofs.Whole.{FirstSeen, first-accepted, accepted-log, answer-said, close-after}
 use Rattle.runlog.proofs.Texts.{text-accepted, text-log}
 

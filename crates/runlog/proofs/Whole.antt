@@ -21,7 +21,7 @@ use Rattle.runlog.specs.declared.LineRead.{LineRead}
 use Rattle.runlog.specs.declared.LineRead.the-variants.{Refused, Line}
 use Rattle.runlog.specs.Log.{headed, onHead, headOf, onField, lineOf, Taken, stop, more, onLine, lineBytes, linesFrom, taken, refused, accepted, closing, answer, lay}
 use Rattle.runlog.specs.Text.{lineText, linesText, Ordered}
-use Rattle.runlog.proofs.Fields.{peel}
+use Rattle.columns.proofs.Lines.{peel}
 use Rattle.runlog.proofs.Loop.{line-length}
 
 -- The first line

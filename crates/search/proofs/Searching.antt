@@ -23,9 +23,8 @@ use Rattle.sheet.specs.Memory.{lay}
 use Rattle.pattern.specs.Decode.{rowsOf}
 use Rattle.antiscenario.specs.Build.{built}
 use Rattle.antiscenario.proofs.InMemory.{rows-built, rows-at-most, pattern-built}
-use Rattle.search.specs.declared.SearchAnswer.{SearchAnswer}
 use Rattle.search.specs.Matching.{filled, isFound}
-use Rattle.search.specs.Searching.{Searched, answered, unsearched, searched, searchRows, searchOf, Matches, Told}
+use Rattle.search.specs.Searching.{Searched, unsearched, searched, searchRows, searchOf, Matches, Told}
 use Rattle.search.proofs.Steps.{never}
 
 -- Rows in memory

@@ -24,7 +24,8 @@ use Rattle.sheet.specs.Row.{six, lineOf, start}
 use Rattle.sheet.specs.Reading.{headed, headOf, Taken, more, after, rowBytes, rowsFrom, rowIn, sheetOf, taken, accepted, closing, answer, sheetIn}
 use Rattle.sheet.specs.Text.{Fits, rowText, rowsText, headText, sheetText, numbersOf, textOf}
 use Rattle.sheet.proofs.Accepted.{Accepted}
-use Rattle.sheet.proofs.Texts.{past, row-text-length, head-text-length, sheet-text-length, row-at, row-read}
+use Rattle.columns.proofs.Lines.{past}
+use Rattle.sheet.proofs.Texts.{row-text-length, head-text-length, sheet-text-length, row-at, row-read}
 use Rattle.sheet.proofs.Theorems.{tag, accepted-sheet, accepted-rows}
 
 -- The first line of a text is read as k and the row count.
@@ -44,10 +45,10 @@ head-read k ls hk hn =
     append-assoc (spell 3 k) (spell 3 n ++ (10 ∷ [])) rest ∙ ap (λ (x : List ℕ). spell 3 k ++ x) (append-assoc (spell 3 n) (10 ∷ []) rest) in
     head-is ((spell 3 k ++ (spell 3 n ++ (10 ∷ []))) ++ rest) k n (sheet-text-length k ls)
     (ap (λ (t : List ℕ). fieldAt t 3) whole ∙ spell-read 3 k (spell 3 n ++ (10 ∷ rest)) (omega arith) (omega arith) (omega arith))
-    (ap (λ (t : List ℕ). fieldAt (drop 3 t) 3) whole ∙ ap (λ (t : List ℕ). fieldAt t 3) (past 3 0 k (spell 3 n ++ (10 ∷ rest)))
+    (ap (λ (t : List ℕ). fieldAt (drop 3 t) 3) whole ∙ ap (λ (t : List ℕ). fieldAt t 3) (past 3 k 0 (spell 3 n ++ (10 ∷ rest)))
     ∙ spell-read 3 n (10 ∷ rest) (omega arith) (omega arith) (omega arith))
     (ap (λ (t : List ℕ). getD t 6 0) whole ∙ sym (getD-drop 6 (spell 3 k ++ (spell 3 n ++ (10 ∷ rest))) 0 0)
-    ∙ ap (λ (t : List ℕ). getD t 0 0) (past 3 3 k (spell 3 n ++ (10 ∷ rest)) ∙ past 3 0 n (10 ∷ rest)))
+    ∙ ap (λ (t : List ℕ). getD t 0 0) (past 3 k 3 (spell 3 n ++ (10 ∷ rest)) ∙ past 3 n 0 (10 ∷ rest)))
     hk hn
 
 -- The rows of a text are read as themselves.

@@ -13,7 +13,8 @@ use Rattle.columns.specs.Number.{fieldAt}
 use Rattle.columns.specs.Spell.{spell}
 use Rattle.columns.specs.declared.Field.{Field}
 use Rattle.columns.specs.declared.Field.the-variants.{Value, Bad}
-use Rattle.columns.proofs.Spelling.{spell-length, spell-read, only-spelling}
+use Rattle.columns.proofs.Spelling.{spell-length, spell-read}
+use Rattle.columns.proofs.Lines.{past, peel}
 use Rattle.sheet.specs.declared.Line.{Line}
 use Rattle.sheet.specs.declared.Parsed.{Parsed}
 use Rattle.sheet.specs.declared.Parsed.the-variants.{Row, Malformed}
@@ -24,19 +25,6 @@ use Rattle.sheet.proofs.Loop.{row-length}
 use Rattle.sheet.proofs.Store.{Good}
 use Rattle.sheet.proofs.Values.{field-most}
 use Rattle.sheet.specs.Text.{Fits, rowText, rowsText, headText, sheetText}
-
--- Fields one after another, at any widths
-
-spell-drop : (w v : ℕ) (rest : List ℕ) → drop w (spell w v ++ rest) ≡ rest
-spell-drop w v rest = ap (λ (n : ℕ). drop n (spell w v ++ rest)) (sym (spell-length w v)) ∙ drop-append-seam (spell w v) rest
-
--- past a field
-pub past : (w m v : ℕ) (rest : List ℕ) → drop (w + m) (spell w v ++ rest) ≡ drop m rest
-past w m v rest = sym (drop-drop m w (spell w v ++ rest)) ∙ ap (drop m) (spell-drop w v rest)
-
--- a field that is read is its spelling, and the rest follows
-pub peel : (w v : ℕ) (t : List ℕ) → fieldAt t w ≡ Value v → t ≡ spell w v ++ drop w t
-peel w v t e = sym (take-append-drop w t) ∙ ap (λ (x : List ℕ). x ++ drop w t) (only-spelling t w v e .1)
 
 -- The lengths of a text
 
@@ -104,22 +92,22 @@ module _ (l : Line) where
 
   -- the text from each field on, and the line's end
   from-1 : drop 3 r0 ≡ r1
-  from-1 = past 3 0 (l .section) r1
+  from-1 = past 3 (l .section) 0 r1
 
   from-2 : drop 6 r0 ≡ r2
-  from-2 = past 3 3 (l .section) r1 ∙ past 3 0 (l .kind) r2
+  from-2 = past 3 (l .section) 3 r1 ∙ past 3 (l .kind) 0 r2
 
   from-3 : drop 9 r0 ≡ r3
-  from-3 = past 3 6 (l .section) r1 ∙ past 3 3 (l .kind) r2 ∙ past 3 0 (l .p) r3
+  from-3 = past 3 (l .section) 6 r1 ∙ past 3 (l .kind) 3 r2 ∙ past 3 (l .p) 0 r3
 
   from-4 : drop 12 r0 ≡ r4
-  from-4 = past 3 9 (l .section) r1 ∙ past 3 6 (l .kind) r2 ∙ past 3 3 (l .p) r3 ∙ past 3 0 (l .q) r4
+  from-4 = past 3 (l .section) 9 r1 ∙ past 3 (l .kind) 6 r2 ∙ past 3 (l .p) 3 r3 ∙ past 3 (l .q) 0 r4
 
   from-5 : drop 23 r0 ≡ r5
-  from-5 = past 3 20 (l .section) r1 ∙ past 3 17 (l .kind) r2 ∙ past 3 14 (l .p) r3 ∙ past 3 11 (l .q) r4 ∙ past 11 0 (l .a) r5
+  from-5 = past 3 (l .section) 20 r1 ∙ past 3 (l .kind) 17 r2 ∙ past 3 (l .p) 14 r3 ∙ past 3 (l .q) 11 r4 ∙ past 11 (l .a) 0 r5
 
   end-is : getD r0 34 0 ≡ 10
-  end-is = sym (getD-drop 34 r0 0 0) ∙ ap (λ (x : List ℕ). getD x 0 0) (past 3 31 (l .section) r1 ∙ past 3 28 (l .kind) r2 ∙ past 3 25 (l .p) r3 ∙ past 3 22 (l .q) r4 ∙ past 11 11 (l .a) r5 ∙ past 11 0 (l .b) r6)
+  end-is = sym (getD-drop 34 r0 0 0) ∙ ap (λ (x : List ℕ). getD x 0 0) (past 3 (l .section) 31 r1 ∙ past 3 (l .kind) 28 r2 ∙ past 3 (l .p) 25 r3 ∙ past 3 (l .q) 22 r4 ∙ past 11 (l .a) 11 r5 ∙ past 11 (l .b) 0 r6)
 
   pub row-read : Fits l → lineOf (rowText l) ≡ Row l
   unfolding lineOf rowText

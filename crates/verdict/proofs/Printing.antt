@@ -8,12 +8,12 @@ use Prim.Native.Nat.{ℕ, zero, suc, _+_, _-_, _^_, _≤_, _<_}
 use native.Mathlib.Nat.{sub-zero}
 use native.Mathlib.Numerals.{add-one}
 use native.Mathlib.Omega.{arith}
-use lib.ListN.{length, getD, take, drop, replicate, set, length-append, length-set, drop-of-length-le}
+use lib.ListN.{length, getD, take, drop, replicate, set, length-append, drop-of-length-le}
 use lib.Seq.{drop-cons, take-append-seam}
 use lib.Dec.{eqb}
 use borrow.Author.Tests.{eqb-true}
-use Rattle.scenario.specs.Rows.{Run, points}
-use Rattle.scenario.specs.Sheet.{Sheet, Answer, nothing, found, Says, env, all, matching}
+use Rattle.scenario.specs.Rows.{points}
+use Rattle.scenario.specs.Sheet.{Answer, nothing, found, Says, env, all, matching}
 use Rattle.scenario.specs.Walk.{walk}
 use Rattle.scenario.specs.Search.{check, is-violating, stopped, faults}
 use Rattle.scenario.specs.Reading.{All}

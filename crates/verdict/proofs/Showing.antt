@@ -1,7 +1,7 @@
 -- The row or line that a refusal is about stands in the text, so the part shown lies inside it.
 -- Carried by one induction over the rows, one over the lines: a refusal there names one of those read.
 -- Assumes nothing.
-use mathlib.Core.Path.{_≡_, refl, sym, ap, _∙_, subst}
+use mathlib.Core.Path.{_≡_, refl, sym, subst}
 use mathlib.Core.Bool.{Bool, true, false, not, cond, _&&_}
 use mathlib.Core.List.{List}
 use Prim.Native.Nat.{ℕ, zero, suc, _+_, _-_, _*_, _≤_, _<_, min}
@@ -29,7 +29,7 @@ use Rattle.runlog.specs.declared.LineRead.the-variants.{Refused, Line}
 use Rattle.runlog.specs.Log as log
 use Rattle.runlog.proofs.Whole.{first-seen as first-line-seen}
 use Rattle.verdict.specs.declared.Part.{Part}
-use Rattle.verdict.specs.Showing.{part, sheetPart, logPart, partOf, textOf, shownLine, Inside, Stands}
+use Rattle.verdict.specs.Showing.{part, sheetPart, logPart, partOf, shownLine, Inside, Stands}
 
 -- The sheet's rows
 

@@ -1,6 +1,5 @@
 -- `bring` meets its contract by recursion on i: the rows up to the last that is wanted bring the same, and that one comes after those that its points need.
 -- Assumes nothing.
-use mathlib.Core.Path.{sym, _∙_}
 use native.Mathlib.Omega.{arith}
 use borrow.Author.Needs.{needs}
 use Rattle.antiscenario.proofs.Laws.{bring-zero, bring-same, bring-adds, brought-short}

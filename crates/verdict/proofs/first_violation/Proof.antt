@@ -14,7 +14,6 @@ use Rattle.scenario.specs.Reading.{All}
 use Rattle.runlog.specs.Held.{runAt, part}
 use Rattle.pattern.specs.Decode.{by, rowsOf}
 use Rattle.search.specs.Placing.{Fixture}
-use Rattle.search.proofs.Finding.{blank}
 use Rattle.verdict.specs.Memory.{sheetAt}
 use Rattle.search.proofs.Steps.{never}
 use Rattle.search.proofs.Turn.{still}

@@ -9,10 +9,10 @@ use lib.ListN.{length, take, drop, take-append-drop}
 use lib.Seq.{drop-append-seam, drop-drop}
 use lib.Dec.{leb}
 use borrow.Author.Tests.{leb-true}
 use Rattle.columns.specs.Number.{afterSpaces, allDigits, decimal, wellLed, scan, numeral, fieldAt}
 use Rattle.columns.specs.Spell.{spell}
 use Rattle.columns.specs.declared.Field.the-variants.{Value, Bad}
-use Rattle.columns.proofs.Spelling.{spell-length, only-spelling}
+use Rattle.columns.proofs.Spelling.{bad-not, spell-length, only-spelling}
 
 module _ (w v : ℕ) where
   spell-drop : (rest : List ℕ) → drop w (spell w v ++ rest) ≡ rest
@@ -25,9 +25,6 @@ module _ (w v : ℕ) where
   -- a field that is read is its spelling, and the rest follows
   pub peel : (t : List ℕ) → fieldAt t w ≡ Value v → t ≡ spell w v ++ drop w t
   peel t e = sym (take-append-drop w t) ∙ ap (λ (x : List ℕ). x ++ drop w t) (only-spelling t w v e .1)
-
-bad-not : (v : ℕ) → Bad ≡ Value v → ⊥
-bad-not v h = let z : _≡_ {A = ℕ} 0 1 = cc in omega arith
 
 -- a field that is read is at most 4,294,967,295
 pub value-fits : (s : List ℕ) (w v : ℕ) → fieldAt s w ≡ Value v → v ≤ 4294967295
