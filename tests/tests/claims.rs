@@ -28,8 +28,10 @@ fn stands(word: &str) -> bool {
 #[test]
 fn claims_name_what_is_there() {
     let text = fs::read_to_string(top().join("docs/CLAIMS.md")).expect("docs/CLAIMS.md is there");
-    let crates: Vec<String> = fs::read_dir(top().join("crates")).unwrap().map(|entry| entry.unwrap().file_name().into_string().unwrap()).collect();
-    let named = |word: &&str| word.split_once('/').is_some_and(|(first, _)| first == "crates" || crates.iter().any(|name| name == first));
+    let crates: Vec<String> =
+        fs::read_dir(top().join("crates")).unwrap().map(|entry| entry.unwrap().file_name().into_string().unwrap()).collect();
+    let named =
+        |word: &&str| word.split_once('/').is_some_and(|(first, _)| first == "crates" || crates.iter().any(|name| name == first));
     let words: Vec<&str> = quoted(&text).into_iter().filter(named).collect();
     assert!(words.len() > 50, "{} names", words.len());
     let missing: Vec<&str> = words.into_iter().filter(|word| !stands(word)).collect();

@@ -102,7 +102,11 @@ fn a_file_that_is_not_there() {
         assert_eq!(output.status.code(), Some(2), "{words:?}");
         assert!(output.stdout.is_empty() && !output.stderr.is_empty(), "{words:?}");
     }
-    let program = Command::new(top().join("target/bin/satskhubo")).args(["no-such-sheet", LOG]).current_dir(top()).output().expect("the program runs");
+    let program = Command::new(top().join("target/bin/satskhubo"))
+        .args(["no-such-sheet", LOG])
+        .current_dir(top())
+        .output()
+        .expect("the program runs");
     assert!(program.stdout.is_empty() && !program.stderr.is_empty());
 }
 

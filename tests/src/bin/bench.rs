@@ -1,4 +1,4 @@
-//! The proved code through the C interface beside plain Rust, in one run, as ratios: bench [check].
+//! The proved code through the C interface beside plain Rust, in one run, as ratios: bench [check | once ours|plain check|NUMBER].
 use satskhubo_tests::generate::logs::{mixed, uniform};
 use satskhubo_tests::generate::sheets::sheet_s;
 use satskhubo_tests::host::Host;
@@ -195,8 +195,25 @@ fn search_many() {
     search("search all of N = 4,096", &many_antiscenarios(), &numbers, mixed_text);
 }
 
+/// One run of one side on S and 4,000 mixed lines, for counting its instructions: the check, or the search of a number.
+fn once(side: &str, what: &str) {
+    let (sheet, log) = (sheet_s(), mixed_text(4000));
+    let mut places = [0; 58];
+    match (side, what.parse::<u64>()) {
+        ("ours", Ok(number)) => keep(Host.search_into(&sheet, &log, number, &mut places)),
+        ("ours", _) => keep(Host.check_number(&sheet, &log)),
+        (_, Ok(number)) => keep(plain::search(&sheet, &log, number, &mut places)),
+        _ => keep(plain::check(&sheet, &log)),
+    }
+}
+
 fn main() {
-    let word = std::env::args().nth(1).unwrap_or_default();
+    let words: Vec<String> = std::env::args().skip(1).collect();
+    if let [word, side, what] = &words[..] {
+        assert_eq!(word, "once");
+        return once(side, what);
+    }
+    let word = words.first().map_or("", String::as_str);
     Table::heading();
     if word == "check" {
         check("standing measure", &standing_measure(), scans_text);
