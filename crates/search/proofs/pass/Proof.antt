@@ -9,10 +9,10 @@ use Rattle.search.proofs.pass.Statement.{statement}
 use Rattle.search.proofs.pass.Tie as tie
 
 returns : tie.Need-returns
-returns c = (sym (ap not (eq-eqb _ 0 (c .if1 .taken))), λ nz. absurd (nz (c .if1 .taken)))
+returns c = (sym (ap not (eq-eqb _ 0 (c .if1 .taken))), (λ nz. absurd (nz (c .if1 .taken)), λ z. refl))
 
 returns-2 : tie.Need-returns-2
-returns-2 c = (sym (ap not (ne-eqb _ 0 (c .before .before .if1 .left))), λ nz. refl)
+returns-2 c = (sym (ap not (ne-eqb _ 0 (c .before .before .if1 .left))), (λ nz. refl, λ z. absurd (c .before .before .if1 .left z)))
 
 pub pass-spec : {M : Type 1} → statement M
 pass-spec =

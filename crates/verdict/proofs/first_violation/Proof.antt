@@ -110,7 +110,7 @@ loop-less c =
     let f = c .before .before .before .before .before .at-fault in
     let g = c .before .before .pass in
     let nz = some-points (a .np) (g .result) (g .ensures .0) (not-false _ (c .if4 .left)) in
-    loop-falls (a .ticks .now) (a .events .now) (a .n) (s .pre .0) (a .rows .now) (a .count) (a .k) (s .pre .1) (a .antecedent) (a .pts .now) (a .np) (a .slots .now) (s .pre .2) re (l .loop .env) (l .loop .inv .0) (l .loop .inv .1) (x .result) (x .last .1 .1 .1 .1 .1 .1 .1 .1 .1 .0) (x .ensures .0) (x .ensures .1) (not-false _ (c .before .before .before .before .before .before .if2 .left)) (f .result) (f .ensures) nz (g .last .1 .1 .0) (g .ensures .1 nz) (l .loop .inv .2)
+    loop-falls (a .ticks .now) (a .events .now) (a .n) (s .pre .0) (a .rows .now) (a .count) (a .k) (s .pre .1) (a .antecedent) (a .pts .now) (a .np) (a .slots .now) (s .pre .2) re (l .loop .env) (l .loop .inv .0) (l .loop .inv .1) (x .result) (x .last .1 .1 .1 .1 .1 .1 .1 .1 .1 .0) (x .ensures .0) (x .ensures .1) (not-false _ (c .before .before .before .before .before .before .if2 .left)) (f .result) (f .ensures) nz (g .last .1 .1 .0) (g .ensures .1 .0 nz) (l .loop .inv .2)
 
 loop-again : tie.Need-loop-again Inv-loop μ-loop
 loop-again c =
@@ -122,9 +122,9 @@ loop-again c =
     let f = c .before .before .before .before .before .at-fault in
     let g = c .before .before .pass in
     let nz = some-points (a .np) (g .result) (g .ensures .0) (not-false _ (c .if4 .left)) in (
-      pass-keeps (a .ticks .now) (a .events .now) (a .n) (s .pre .0) (a .rows .now) (a .count) (a .k) (s .pre .1) (a .antecedent) (a .pts .now) (a .np) (a .slots .now) (s .pre .2) re (l .loop .env) (l .loop .inv .0) (l .loop .inv .1) (x .result) (x .last .1 .1 .1 .1 .1 .1 .1 .1 .1 .0) (x .ensures .0) (x .ensures .1) (not-false _ (c .before .before .before .before .before .before .if2 .left)) (f .result) (f .ensures) nz (g .last .1 .1 .0) (g .ensures .1 nz),
-      loop-miss (a .ticks .now) (a .events .now) (a .n) (s .pre .0) (a .rows .now) (a .count) (a .k) (s .pre .1) (a .antecedent) (a .pts .now) (a .np) (a .slots .now) (s .pre .2) re (l .loop .env) (l .loop .inv .0) (l .loop .inv .1) (x .result) (x .last .1 .1 .1 .1 .1 .1 .1 .1 .1 .0) (x .ensures .0) (x .ensures .1) (not-false _ (c .before .before .before .before .before .before .if2 .left)) (f .result) (f .ensures) nz (g .last .1 .1 .0) (g .ensures .1 nz) (c .before .before .before .before .if3 .left),
-      pass-below (a .ticks .now) (a .events .now) (a .n) (s .pre .0) (a .rows .now) (a .count) (a .k) (s .pre .1) (a .antecedent) (a .pts .now) (a .np) (a .slots .now) (s .pre .2) re (l .loop .env) (l .loop .inv .0) (l .loop .inv .1) (x .result) (x .last .1 .1 .1 .1 .1 .1 .1 .1 .1 .0) (x .ensures .0) (x .ensures .1) (not-false _ (c .before .before .before .before .before .before .if2 .left)) (f .result) (f .ensures) nz (g .last .1 .1 .0) (g .ensures .1 nz),
+      pass-keeps (a .ticks .now) (a .events .now) (a .n) (s .pre .0) (a .rows .now) (a .count) (a .k) (s .pre .1) (a .antecedent) (a .pts .now) (a .np) (a .slots .now) (s .pre .2) re (l .loop .env) (l .loop .inv .0) (l .loop .inv .1) (x .result) (x .last .1 .1 .1 .1 .1 .1 .1 .1 .1 .0) (x .ensures .0) (x .ensures .1) (not-false _ (c .before .before .before .before .before .before .if2 .left)) (f .result) (f .ensures) nz (g .last .1 .1 .0) (g .ensures .1 .0 nz),
+      loop-miss (a .ticks .now) (a .events .now) (a .n) (s .pre .0) (a .rows .now) (a .count) (a .k) (s .pre .1) (a .antecedent) (a .pts .now) (a .np) (a .slots .now) (s .pre .2) re (l .loop .env) (l .loop .inv .0) (l .loop .inv .1) (x .result) (x .last .1 .1 .1 .1 .1 .1 .1 .1 .1 .0) (x .ensures .0) (x .ensures .1) (not-false _ (c .before .before .before .before .before .before .if2 .left)) (f .result) (f .ensures) nz (g .last .1 .1 .0) (g .ensures .1 .0 nz) (c .before .before .before .before .if3 .left),
+      pass-below (a .ticks .now) (a .events .now) (a .n) (s .pre .0) (a .rows .now) (a .count) (a .k) (s .pre .1) (a .antecedent) (a .pts .now) (a .np) (a .slots .now) (s .pre .2) re (l .loop .env) (l .loop .inv .0) (l .loop .inv .1) (x .result) (x .last .1 .1 .1 .1 .1 .1 .1 .1 .1 .0) (x .ensures .0) (x .ensures .1) (not-false _ (c .before .before .before .before .before .before .if2 .left)) (f .result) (f .ensures) nz (g .last .1 .1 .0) (g .ensures .1 .0 nz),
     )
 
 pub first-violation-spec : {M : Type 1} → statement M
