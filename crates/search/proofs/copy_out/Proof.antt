@@ -22,8 +22,8 @@ loop-holds c = (search needs, refl, refl)
 
 loop-again : tie.Need-loop-again Inv-loop μ-loop
 loop-again c =
-    let l = c .before .before .before in
-    let a = c .before .before .before .before .before .before .before .args in (
+    let l = c .before .before .before .before .before in
+    let a = l .before .before .args in (
       search needs,
       length-set (l .loop .places) (l .loop .j) (c .at2 .result) ∙ l .loop .inv .1,
       ap (set (l .loop .places) (l .loop .j)) (c .at2 .ensures ∙ ap (by (a .env .now)) (c .before .at .ensures))
@@ -33,7 +33,7 @@ loop-again c =
 returns : tie.Need-returns Inv-loop μ-loop
 returns c =
     let l = c .before in
-    let a = c .before .before .before .before .before .args in
+    let a = l .before .before .args in
     let e : l .loop .j ≡ a .np = omega (arith, c .loop-test .left, l .loop .inv .0) in
     subst (λ (k : ℕ). l .loop .places ≡ map (by (a .env .now)) (take k (a .pts .now)) ++ drop k (a .places .now)) e (l .loop .inv .2)
 

@@ -95,10 +95,7 @@ search-antiscenario-spec =
     (λ c. search needs)
     (λ c. search needs)
     build-requires
-    (λ c. search needs)
-    (λ c. search needs)
     cast-search-rows
-    (λ c. search needs)
     cast-search-rows-2
     search-rows-requires
     (λ c. search needs)
