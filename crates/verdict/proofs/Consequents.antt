@@ -5,7 +5,8 @@ use mathlib.Core.Logic.{_⊎_, inl, inr, ⊎-elim}
 use mathlib.Core.Bool.{Bool, true, false, _&&_, _||_, cond}
 use mathlib.Core.Option.{Option, none, some}
 use mathlib.Core.List.{List, [], _∷_, _++_, map}
-use Prim.Native.Nat.{ℕ, suc, _+_, _-_, _*_, _≤_, _<_, min, max}
+use Prim.Native.Nat.{ℕ, zero, suc, _+_, _-_, _*_, _≤_, _<_, min, max}
+use native.Mathlib.Numerals.{add-one}
 use native.Mathlib.Omega.{arith}
 use lib.ListN.{length, getD, set, drop, replicate, length-set}
 use lib.Seq.{getD-set-same, getD-set-other}
@@ -16,18 +17,21 @@ use Rattle.scenario.specs.Walk.{placing, lowest-above, highest-below, onto, sta
 use Rattle.scenario.specs.Sheet.{Sheet, all, env}
 use Rattle.scenario.specs.Search.{stopped, place-of, faults}
 use Rattle.scenario.specs.Fields.{Tagged, tagged}
-use Rattle.scenario.proofs.Base.{tell, is-true, is-false, neqb→neq, all-map, all-front, all-back, Up, Down, scan-up, scan-down}
+use Rattle.scenario.proofs.Base.{tell, is-true, is-false, neqb→neq, Order, lower, level, upper, order, all-map, all-append, all-front, all-back, Up, Down, scan-up, scan-down}
 use Rattle.scenario.specs.Reading.{All}
 use Rattle.scenario.proofs.Rules.{Laws, meets-same}
-use Rattle.scenario.proofs.Section.{Known, Fits, Ready}
+use Rattle.scenario.proofs.Section.{Known, Fits, Ready, all-of-map}
 use Rattle.scenario.proofs.Glue.{Section, Sections}
 use Rattle.scenario.proofs.Agreement.{Base, Sound}
+use Rattle.scenario.proofs.Reading.{sound}
 use Rattle.runlog.proofs.Whole.{lay-is}
 use Rattle.verdict.specs.Check.{front}
-use Rattle.pattern.specs.Decode.{by}
+use Rattle.pattern.specs.Decode.{by, rowAt, listed}
 use Rattle.runlog.specs.Held.{orZero}
 use Rattle.runlog.specs.Log.{lay}
-use Rattle.verdict.specs.Consequents.{ontoIn, stayIn, advanceIn, onward, faultIn, faulty, faultsIn}
+use Rattle.verdict.specs.Consequents.{ontoIn, stayIn, advanceIn, orKeep, tagAt, tagsOf, onward, faultIn, faulty, faultsIn, Elsewhere, Kept}
+use Rattle.verdict.specs.Memory.{sheetAt, SheetHeld}
+use Rattle.verdict.proofs.Steps.{advance-keeps}
 
 abbrev pub tag : ℕ → Row → Tagged
 tag i r = record { section = i; row = r }
@@ -149,22 +153,43 @@ unfolding points elem
 empty m t = t
 
 -- The consequents
-module _ (run : Run) (L : Laws run) (base : ℕ → Type 0) (ts : List Tagged) (E : List ℕ) (e : Env) (l : length E ≡ 100) (A : (m : ℕ) → base m → getD E m 0 ≡ e m) where
+module _ (run : Run) (ts : List Tagged) where
   -- of the sections from c + 1 on the rows in ts are those of cs, after o others
   abbrev pub Behind : (c o : ℕ) → List (List Row) → Type 0
   Behind c o cs = (i : ℕ) → c < i → (E : List ℕ) → faultIn run i E 0 ts ≡ faultIn run i E o (tagged (suc c) cs)
 
-  section-at : (c o : ℕ) (x : List Row) (cs : List (List Row)) → Behind c o (x ∷ cs) → c < 6 → Section base (suc c) x
+  next-behind : (c o : ℕ) (x : List Row) (cs : List (List Row)) → Behind c o (x ∷ cs) → Behind (suc c) (o + length x) cs
+  unfolding tagged
+  next-behind c o x cs B i h F = B i (omega arith) F ∙ over run i (suc c) (λ q. omega arith) x (tagged (suc (suc c)) cs) F o
+
+  first-behind : (sheet : Sheet) → ts ≡ tagged 0 (sheet .antecedent ∷ sheet .consequents) → Behind 0 (length (sheet .antecedent)) (sheet .consequents)
+  unfolding tagged
+  first-behind sheet et i h F = let z : 0 + length (sheet .antecedent) ≡ length (sheet .antecedent) = omega arith in
+      ap (faultIn run i F 0) et ∙ over run i 0 (λ q. omega arith) (sheet .antecedent) (tagged 1 (sheet .consequents)) F 0 ∙ ap (λ (k : ℕ). faultIn run i F k (tagged 1 (sheet .consequents))) z
+
+module _ (run : Run) (L : Laws run) (base : ℕ → Type 0) (ts : List Tagged) where
+  section-at : (E : List ℕ) (e : Env) → length E ≡ 100 → ((m : ℕ) → base m → getD E m 0 ≡ e m)
+      → (c o : ℕ) (x : List Row) (cs : List (List Row)) → Behind run ts c o (x ∷ cs) → c < 6 → Section base (suc c) x
       → faultIn run (suc c) E 0 ts ≡ number o (walk run e x)
   unfolding tagged
-  section-at c o x cs B h X =
+  section-at E e l A c o x cs B h X =
       B (suc c) (omega arith) E
       ∙ own run L base (10 * suc c + 9) (suc c) (tagged (suc (suc c)) cs) (none-later run (suc c) (suc (suc c)) (omega arith) cs) x [] (X .ready)
       (all-map (λ p q. omega (arith, q .high)) (points x) (X .home)) E e l (λ m k. ⊎-elim (λ b. A m b) (λ t. absurd (empty m t)) k) o
 
-  next-behind : (c o : ℕ) (x : List Row) (cs : List (List Row)) → Behind c o (x ∷ cs) → Behind (suc c) (o + length x) cs
-  unfolding tagged
-  next-behind c o x cs B i h F = B i (omega arith) F ∙ over run i (suc c) (λ q. omega arith) x (tagged (suc (suc c)) cs) F o
+  -- two arrays that agree on the base say the same of each section
+  sections-same : (E E' : List ℕ) → length E ≡ 100 → length E' ≡ 100 → ((m : ℕ) → base m → getD E' m 0 ≡ getD E m 0)
+      → (cs : List (List Row)) (c o : ℕ) → Behind run ts c o cs → c + length cs ≤ 6 → Sections base (suc c) cs
+      → (i : ℕ) → c ≤ i → i < c + length cs → faultIn run (suc i) E' 0 ts ≡ faultIn run (suc i) E 0 ts
+  sections-same E E' l l' A [] c o B h X i low high = absurd (omega arith)
+  sections-same E E' l l' A (x ∷ cs) c o B h X i low high =
+      go (order c i) (λ q. sections-same E E' l l' A cs (suc c) (o + length x) (next-behind run ts c o x cs B) (omega arith) (X .1) i q (omega arith))
+    where
+      go : Order c i → (c < i → faultIn run (suc i) E' 0 ts ≡ faultIn run (suc i) E 0 ts) → faultIn run (suc i) E' 0 ts ≡ faultIn run (suc i) E 0 ts
+      go (lower q) f = f q
+      go (level q) f = subst (λ (z : ℕ). faultIn run (suc z) E' 0 ts ≡ faultIn run (suc z) E 0 ts) q
+          (section-at E' (by E) l' A c o x cs B (omega arith) (X .0) ∙ sym (section-at E (by E) l (λ m b. refl) c o x cs B (omega arith) (X .0)))
+      go (upper q) f = absurd (omega arith)
 
 -- one row for each consequent
 pub faults-length : (run : Run) (sheet : Sheet) (xs : List ℕ) (cs : List (List Row)) (o : ℕ) → length (faults run sheet xs o cs) ≡ length cs
@@ -180,26 +205,26 @@ module _ (run : Run) (L : Laws run) (sheet : Sheet) (ts : List Tagged) (xs E : L
   abbrev pub halted : List Row → Bool
   halted c = stopped (walk run e₁ c)
 
-  all-is : (cs : List (List Row)) (c o : ℕ) (rows : List ℕ) → Behind run L (Base sheet) ts E e₁ l A c o cs → c + length cs ≤ 6 → Sections (Base sheet) (suc c) cs
+  all-is : (cs : List (List Row)) (c o : ℕ) (rows : List ℕ) → Behind run ts c o cs → c + length cs ≤ 6 → Sections (Base sheet) (suc c) cs
       → faultsIn run ts E c (length cs) rows .all ≡ all halted cs
   unfolding faultsIn all
   all-is [] c o rows B h X = refl
   all-is (x ∷ cs) c o rows B h X =
       rw (section-at run L (Base sheet) ts E e₁ l A c o x cs B (omega arith) (X .0))
-      (go (walk run e₁ x) (λ rows. all-is cs (suc c) (o + length x) rows (next-behind run L (Base sheet) ts E e₁ l A c o x cs B) (omega arith) (X .1)))
+      (go (walk run e₁ x) (λ rows. all-is cs (suc c) (o + length x) rows (next-behind run ts c o x cs B) (omega arith) (X .1)))
     where
       go : (v : Walk) → ((rows : List ℕ) → faultsIn run ts E (suc c) (length cs) rows .all ≡ all halted cs)
           → cond (eqb (number o v) 0) (faulty false rows) (faultsIn run ts E (suc c) (length cs) (set rows c (number o v))) .all ≡ (stopped v && all halted cs)
       go (through e) f = refl
       go (stops j) f = rw (ne-eqb (o + j + 1) 0 (λ q. omega arith)) (f (set rows c (o + j + 1)))
 
-  rows-are : (cs : List (List Row)) (c o : ℕ) (rows : List ℕ) → Behind run L (Base sheet) ts E e₁ l A c o cs → c + length cs ≤ 6 → Sections (Base sheet) (suc c) cs
+  rows-are : (cs : List (List Row)) (c o : ℕ) (rows : List ℕ) → Behind run ts c o cs → c + length cs ≤ 6 → Sections (Base sheet) (suc c) cs
       → T (all halted cs) → faultsIn run ts E c (length cs) rows .rows ≡ lay c (faults run sheet xs o cs) rows
   unfolding faultsIn all lay faults
   rows-are [] c o rows B h X t = refl
   rows-are (x ∷ cs) c o rows B h X t =
       rw (section-at run L (Base sheet) ts E e₁ l A c o x cs B (omega arith) (X .0))
-      (go (walk run e₁ x) t (λ rows s. rows-are cs (suc c) (o + length x) rows (next-behind run L (Base sheet) ts E e₁ l A c o x cs B) (omega arith) (X .1) s))
+      (go (walk run e₁ x) t (λ rows s. rows-are cs (suc c) (o + length x) rows (next-behind run ts c o x cs B) (omega arith) (X .1) s))
     where
       go : (v : Walk) → T (stopped v && all halted cs) → ((rows : List ℕ) → T (all halted cs) → faultsIn run ts E (suc c) (length cs) rows .rows ≡ lay (suc c) (faults run sheet xs (o + length x) cs) rows)
           → cond (eqb (number o v) 0) (faulty false rows) (faultsIn run ts E (suc c) (length cs) (set rows c (number o v))) .rows
@@ -208,13 +233,8 @@ module _ (run : Run) (L : Laws run) (sheet : Sheet) (ts : List Tagged) (xs E : L
       go (stops j) t f = rw (ne-eqb (o + j + 1) 0 (λ q. omega arith)) (f (set rows c (o + j + 1)) t)
 
   module _ (S : Sound sheet) (few : length (sheet .consequents) ≤ 6) (et : ts ≡ tagged 0 (sheet .antecedent ∷ sheet .consequents)) where
-    begin : Behind run L (Base sheet) ts E e₁ l A 0 (length (sheet .antecedent)) (sheet .consequents)
-    unfolding tagged
-    begin i h F = let z : 0 + length (sheet .antecedent) ≡ length (sheet .antecedent) = omega arith in
-        ap (faultIn run i F 0) et ∙ over run i 0 (λ q. omega arith) (sheet .antecedent) (tagged 1 (sheet .consequents)) F 0 ∙ ap (λ (k : ℕ). faultIn run i F k (tagged 1 (sheet .consequents))) z
-
     pub all-halt : (k : ℕ) → length (sheet .consequents) ≡ k → (rows : List ℕ) → faultsIn run ts E 0 k rows .all ≡ all halted (sheet .consequents)
-    all-halt k q rows = ap (λ (z : ℕ). faultsIn run ts E 0 z rows .all) (sym q) ∙ all-is (sheet .consequents) 0 (length (sheet .antecedent)) rows begin (omega arith) (S .sections)
+    all-halt k q rows = ap (λ (z : ℕ). faultsIn run ts E 0 z rows .all) (sym q) ∙ all-is (sheet .consequents) 0 (length (sheet .antecedent)) rows (first-behind run ts sheet et) (omega arith) (S .sections)
 
     pub fault-rows : (k : ℕ) → length (sheet .consequents) ≡ k → T (all halted (sheet .consequents)) → faultsIn run ts E 0 k (replicate 6 0) .rows ≡ front 6 (faults run sheet xs (length (sheet .antecedent)) (sheet .consequents))
     unfolding front
@@ -223,5 +243,69 @@ module _ (run : Run) (L : Laws run) (sheet : Sheet) (ts : List Tagged) (xs E : L
         let z : 0 + length fs ≡ length fs = omega arith in
         let h : 0 + length fs ≤ 6 = omega (arith, faults-length run sheet xs (sheet .consequents) (length (sheet .antecedent))) in
         ap (λ (z : ℕ). faultsIn run ts E 0 z (replicate 6 0) .rows) (sym q)
-        ∙ rows-are (sheet .consequents) 0 (length (sheet .antecedent)) (replicate 6 0) begin (omega arith) (S .sections) t
+        ∙ rows-are (sheet .consequents) 0 (length (sheet .antecedent)) (replicate 6 0) (first-behind run ts sheet et) (omega arith) (S .sections) t
         ∙ lay-is fs 0 (replicate 6 0) h ∙ ap (λ (k : ℕ). fs ++ drop k (replicate 6 0)) z
+
+-- What the walks leave as it was
+
+-- The rows of sections introduce no point of the base.
+module _ (base : ℕ → Type 0) (m : ℕ) (b : base m) where
+  rows-elsewhere : (i r : ℕ) (ks rs : List Row) → Ready base r ks rs → All (Elsewhere m) (map (tag i) rs)
+  rows-elsewhere i r ks [] f = tt
+  rows-elsewhere i r ks (k ∷ rs) f = (λ s. all-map (λ p v e. v .0 (inl (subst base e b))) (introduced k) (f .0 .new), rows-elsewhere i r (k ∷ ks) rs (f .1))
+
+  sections-elsewhere : (i : ℕ) (cs : List (List Row)) → Sections base i cs → All (Elsewhere m) (tagged i cs)
+  unfolding tagged
+  sections-elsewhere i [] X = tt
+  sections-elsewhere i (c ∷ cs) X =
+      all-append (Elsewhere m) (map (tag i) c) (tagged (suc i) cs)
+      (rows-elsewhere i (10 * i + 9) [] c (X .0 .ready)) (sections-elsewhere (suc i) cs (X .1))
+
+-- what all the listed have, each has
+listed-at : (P : Tagged → Type 0) (f : ℕ → Tagged) (left j i : ℕ) → j ≤ i → i < j + left → All P (listed f j left) → P (f i)
+unfolding listed
+listed-at P f zero j i l h a = absurd (omega arith)
+listed-at P f (suc left) j i l h a = go (order j i) (λ q. listed-at P f left (suc j) i q (omega arith) (a .1))
+  where
+    go : Order j i → (j < i → P (f i)) → P (f i)
+    go (lower q) r = r q
+    go (level q) r = subst (λ (z : ℕ). P (f z)) q (a .0)
+    go (upper q) r = absurd (omega arith)
+
+-- nothing is done, and one thing after another
+pub kept-all : (ts : List Tagged) (E : List ℕ) → Kept ts E E
+kept-all ts E = record { size = refl; same = λ m o. refl }
+
+pub kept-on : (ts : List Tagged) (E E' E″ : List ℕ) → Kept ts E E' → Kept ts E' E″ → Kept ts E E″
+kept-on ts E E' E″ K K' = record { size = K' .size ∙ K .size; same = λ m o. K' .same m o ∙ K .same m o }
+
+-- row j of consequent c + 1
+pub row-keeps : (run : Run) (rows : List ℕ) (count : ℕ) (E E' : List ℕ) (j c s : ℕ) → j < count → s ≡ getD rows (6 * j) 0 → s ≡ c + 1 → (r : Row) → r ≡ rowAt rows j
+    → length E' ≡ length E → E' ≡ orKeep E (advanceIn run E r) → Kept (tagsOf rows count) E E'
+unfolding tagsOf
+row-keeps run rows count E E' j c s h es sc r er el ee = record {
+  size = el;
+  same = λ m o. ap (λ (z : List ℕ). getD z m 0) (ee ∙ ap (λ (z : Row). orKeep E (advanceIn run E z)) er)
+      ∙ advance-keeps run E m (rowAt rows j) (listed-at (Elsewhere m) (tagAt rows) count 0 j (omega arith) (omega arith) o (λ z. omega arith));
+}
+
+-- Of a sheet in memory
+module _ (rows : List ℕ) (count k : ℕ) (S : SheetHeld rows count k) where
+  abbrev sheet : Sheet
+  sheet = sheetAt rows count k
+
+  abbrev ts : List Tagged
+  ts = tagsOf rows count
+
+  pub base-elsewhere : (m : ℕ) → Base sheet m → All (Elsewhere m) ts
+  unfolding tagged
+  base-elsewhere m b = subst (All (Elsewhere m)) (sym (S .tags))
+      (all-append (Elsewhere m) (map (tag 0) (sheet .antecedent)) (tagged 1 (sheet .consequents))
+      (all-of-map (Elsewhere m) (tag 0) (sheet .antecedent) (all-map (λ r u n. absurd (n refl)) (sheet .antecedent) (sound sheet (S .read) .uses)))
+      (sections-elsewhere (Base sheet) m b 1 (sheet .consequents) (sound sheet (S .read) .sections)))
+
+  -- a consequent is walked over what the others left as over the array at the start
+  pub fault-same : (run : Run) → Laws run → (E E' : List ℕ) → length E ≡ 100 → Kept ts E E' → (c : ℕ) → c < k → faultIn run (c + 1) E' 0 ts ≡ faultIn run (c + 1) E 0 ts
+  fault-same run L E E' l K c h = rw (add-one c)
+      (sections-same run L (Base sheet) ts E E' l (K .size ∙ l) (λ m b. K .same m (base-elsewhere m b)) (sheet .consequents) 0 (length (sheet .antecedent))
+      (first-behind run ts sheet (S .tags)) (omega (arith, S .read .count)) (sound sheet (S .read) .sections) c (omega arith) (omega (arith, S .consequents)))

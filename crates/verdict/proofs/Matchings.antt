@@ -15,10 +15,10 @@ use Rattle.scenario.specs.Walk.{walk}
 use Rattle.scenario.specs.Sheet.{Sheet, Answer, nothing, found, Says, matching, no-larger, all, env, count as countOf, antiscenario, chosen, choices, choose, total, flat}
 use Rattle.scenario.specs.Search.{least, smallest-matching, stopped, is-violating, check, faults}
 use Rattle.scenario.specs.Fields.{Tagged, tagged}
-use Rattle.scenario.proofs.Base.{both, pair, all-map}
+use Rattle.scenario.proofs.Base.{both, pair, all-map, all-elem}
 use Rattle.scenario.specs.Reading.{All, Ordinary, SheetRead, Pattern}
 use Rattle.scenario.proofs.Rules.{Laws}
-use Rattle.scenario.proofs.Place.{env-map}
+use Rattle.scenario.proofs.Place.{map-same, env-map}
 use Rattle.scenario.proofs.Least.{Placed, search-says, least-says, says-map}
 use Rattle.scenario.proofs.Final.{answers-are-determined}
 use Rattle.scenario.proofs.Prefix.{least-none}
@@ -35,9 +35,9 @@ use Rattle.scenario.proofs.Patterns.{antiscenario-pattern}
 use Rattle.verdict.specs.declared.Checked.{Checked}
 use Rattle.verdict.specs.declared.Faults.{Faults}
 use Rattle.verdict.specs.Check.{front, violatedAt, verdictOf, blank}
-use Rattle.verdict.specs.Consequents.{tagAt, tagsOf, faultsIn}
+use Rattle.verdict.specs.Consequents.{tagAt, tagsOf, faultsIn, Kept}
 use Rattle.verdict.specs.Memory.{sheetAt, SheetHeld, leading, AntecedentPrepared}
-use Rattle.verdict.proofs.Consequents.{tag, faults-length, all-halt, fault-rows}
+use Rattle.verdict.proofs.Consequents.{tag, faults-length, all-halt, fault-rows, base-elsewhere}
 use Rattle.search.proofs.Steps.{never}
 use Rattle.search.proofs.Matchings.{lex-first, past, past-below}
 use Rattle.search.proofs.Turn.{still, turn-keeps, turn-none, turn-matches, turn-hit, turn-miss, turn-last, turn-on, turn-falls, point-small, point-line, passed-is, passed-keeps}
@@ -295,24 +295,36 @@ module _ (ticks events : List ℕ) (n : ℕ) (H : Held ticks events n) (rows : L
     loop-keeps = moved (Fixture run) (turn-keeps run n rows slots antecedent pts np (blank-env (n + 1)) (prepared re) (is-violating run sheet) only E F up)
 
     module _ (t : r ≡ true) where
-      pub loop-on : All (λ (x : ℕ). (1 ≤ x) × (x ≤ run .lines)) (map (by E') (points rs))
+      loop-on : All (λ (x : ℕ). (1 ≤ x) × (x ≤ run .lines)) (map (by E') (points rs))
       loop-on = moved (λ z. All (λ (x : ℕ). (1 ≤ x) × (x ≤ run .lines)) (map (by z) (points rs)))
           (turn-on run n rows slots antecedent pts np (blank-env (n + 1)) (prepared re) (is-violating run sheet) only E F up refl (sym er ∙ t))
-
-      -- room to go past it
-      pub loop-room : (i : ℕ) → i < np → (getD pts i 0 < 100) × (getD E' (getD pts i 0) 0 ≤ 4000)
-      loop-room i h = (
-        point-small run n rows slots antecedent pts np (blank-env (n + 1)) (prepared re) (is-violating run sheet) only i h,
-        omega (arith, point-line run n rows slots antecedent pts np (blank-env (n + 1)) (prepared re) (is-violating run sheet) only E' loop-on i h, part-length events n (H .lines .room), H .lines .few),
-      )
 
       match-there : T (matching run rs (map (by E') (points rs)))
       match-there = moved (λ z. T (matching run rs (map (by z) (points rs)))) (turn-matches run n rows slots antecedent pts np (blank-env (n + 1)) (prepared re) (is-violating run sheet) only E F up refl (sym er ∙ t))
 
-      module _ (f : Faults) (ef : f ≡ faultsIn run (tagsOf rows count) E' 0 k (replicate 6 0)) where
-        pub loop-hit : f .all ≡ true → (at : List ℕ) → at ≡ map (by E') (take np pts) ++ drop np (replicate 4 0)
+      -- f is what the walk over the consequents says, and E″ what it leaves.
+      module _ (f : Faults) (ef : f ≡ faultsIn run (tagsOf rows count) E' 0 k (replicate 6 0)) (E″ : List ℕ) (K : Kept (tagsOf rows count) E' E″) where
+        base-kept : (m : ℕ) → Base sheet m → getD E″ m 0 ≡ getD E' m 0
+        base-kept m b = K .same m (base-elsewhere rows count k S m b)
+
+        places-kept : map (by E″) (points rs) ≡ map (by E') (points rs)
+        places-kept = map-same (by E″) (by E') (points rs) (all-elem (λ (m : ℕ). getD E″ m 0 ≡ getD E' m 0) (points rs)
+            (λ m q. base-kept m (is-antecedent (subst (λ (z : List Row). T (elem m (points z))) (P .antecedent-rows) q))))
+
+        pub walk-keeps : Fixture run E″
+        walk-keeps = record { start = base-kept 0 (is-start refl) ∙ loop-keeps .start; close = base-kept 99 (is-close refl) ∙ loop-keeps .close; size = K .size ∙ loop-keeps .size }
+
+        -- room to go past it
+        pub loop-room : (i : ℕ) → i < np → (getD pts i 0 < 100) × (getD E″ (getD pts i 0) 0 ≤ 4000)
+        loop-room i h = (
+          point-small run n rows slots antecedent pts np (blank-env (n + 1)) (prepared re) (is-violating run sheet) only i h,
+          omega (arith, point-line run n rows slots antecedent pts np (blank-env (n + 1)) (prepared re) (is-violating run sheet) only E″ (subst (All (λ (x : ℕ). (1 ≤ x) × (x ≤ run .lines))) (sym places-kept) loop-on) i h, part-length events n (H .lines .room), H .lines .few),
+        )
+
+        pub loop-hit : f .all ≡ true → (at : List ℕ) → at ≡ map (by E″) (take np pts) ++ drop np (replicate 4 0)
             → made np k at (f .rows) ≡ verdictOf run sheet (check run sheet)
-        loop-hit e at ea = answered E' loop-keeps match-there f ef e at ea
+        loop-hit e at ea = answered E' loop-keeps match-there f ef e at
+            (ea ∙ ap (λ (z : List ℕ). z ++ drop np (replicate 4 0)) (ap (map (by E″)) (P .front) ∙ places-kept ∙ ap (map (by E')) (sym (P .front))))
             (sym inv ∙ turn-hit run n rows slots antecedent pts np (blank-env (n + 1)) (prepared re) (is-violating run sheet) only E F up refl (sym er ∙ t)
             (subst (λ (z : List ℕ). T (is-violating run sheet (map (by z) (points rs)))) ee (hit E' loop-keeps match-there f ef e))
             ∙ ap (λ (z : List ℕ). found (map (by z) (points rs))) (sym ee))
@@ -325,26 +337,26 @@ module _ (ticks events : List ℕ) (n : ℕ) (H : Held ticks events n) (rows : L
         loop-last e z = holds (sym inv ∙ turn-last run n rows slots antecedent pts np (blank-env (n + 1)) (prepared re) (is-violating run sheet) only E F up refl (sym er ∙ t) (missed e) (sym (P .number) ∙ z))
 
         -- gone past it
-        module _ (nz : np ≡ 0 → ⊥) (E″ : List ℕ) (ep : E″ ≡ set E' (getD pts (np - 1) 0) (getD E' (getD pts (np - 1) 0) 0 + 1)) where
+        module _ (nz : np ≡ 0 → ⊥) (E‴ : List ℕ) (ep : E‴ ≡ set E″ (getD pts (np - 1) 0) (getD E″ (getD pts (np - 1) 0) 0 + 1)) where
           some : length (points rs) ≡ 0 → ⊥
           some z = nz (P .number ∙ z)
 
-          passed : map (by E″) (points rs) ≡ past (map (by E') (points rs))
-          passed = ap (λ (z : List ℕ). map (by z) (points rs)) ep ∙ passed-is run n rows slots antecedent pts np (blank-env (n + 1)) (prepared re) (is-violating run sheet) only some E' loop-keeps
+          passed : map (by E‴) (points rs) ≡ past (map (by E') (points rs))
+          passed = ap (λ (z : List ℕ). map (by z) (points rs)) ep ∙ passed-is run n rows slots antecedent pts np (blank-env (n + 1)) (prepared re) (is-violating run sheet) only some E″ walk-keeps ∙ ap past places-kept
 
-          pub loop-miss : f .all ≡ false → least (run .lines) (length (points rs)) (λ ys. no-larger (map (by E″) (points rs)) ys && is-violating run sheet ys) ≡ check run sheet
+          pub loop-miss : f .all ≡ false → least (run .lines) (length (points rs)) (λ ys. no-larger (map (by E‴) (points rs)) ys && is-violating run sheet ys) ≡ check run sheet
           loop-miss e =
               ap (λ (z : List ℕ). least (run .lines) (length (points rs)) (λ ys. no-larger z ys && is-violating run sheet ys)) (passed ∙ ap (λ (z : List ℕ). past (map (by z) (points rs))) ee)
               ∙ sym (turn-miss run n rows slots antecedent pts np (blank-env (n + 1)) (prepared re) (is-violating run sheet) only E F up refl (sym er ∙ t) (missed e) some)
               ∙ inv
 
-          pub pass-keeps : Fixture run E″
-          pass-keeps = subst (Fixture run) (sym ep) (passed-keeps run n rows slots antecedent pts np (blank-env (n + 1)) (prepared re) (is-violating run sheet) only some E' loop-keeps)
+          pub pass-keeps : Fixture run E‴
+          pass-keeps = subst (Fixture run) (sym ep) (passed-keeps run n rows slots antecedent pts np (blank-env (n + 1)) (prepared re) (is-violating run sheet) only some E″ walk-keeps)
 
-          pub pass-below : All (λ (x : ℕ). x < run .lines + 2) (map (by E″) (points rs))
+          pub pass-below : All (λ (x : ℕ). x < run .lines + 2) (map (by E‴) (points rs))
           pass-below = subst (All (λ (x : ℕ). x < run .lines + 2)) (sym passed)
               (all-map (λ x q. omega arith) (past (map (by E') (points rs))) (past-below (run .lines + 1) (map (by E') (points rs)) (all-map (λ x q. omega (arith, q .1)) (map (by E') (points rs)) loop-on)))
 
-          pub loop-falls : All (λ (x : ℕ). x < run .lines + 2) (map (by E) (points rs)) → still (run .lines) (length (points rs)) (map (by E″) (points rs)) < still (run .lines) (length (points rs)) (map (by E) (points rs))
+          pub loop-falls : All (λ (x : ℕ). x < run .lines + 2) (map (by E) (points rs)) → still (run .lines) (length (points rs)) (map (by E‴) (points rs)) < still (run .lines) (length (points rs)) (map (by E) (points rs))
           loop-falls h = subst (λ (z : List ℕ). still (run .lines) (length (points rs)) z < still (run .lines) (length (points rs)) (map (by E) (points rs))) (sym (passed ∙ ap (λ (z : List ℕ). past (map (by z) (points rs))) ee))
               (turn-falls run n rows slots antecedent pts np (blank-env (n + 1)) (prepared re) (is-violating run sheet) only E F up refl (sym er ∙ t) h some)

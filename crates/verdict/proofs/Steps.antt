@@ -8,12 +8,14 @@ use Prim.Native.Nat.{ℕ, zero, suc, _+_, _-_, _*_, _≤_, _<_, min, max}
 use native.Mathlib.Numerals.{add-one}
 use native.Mathlib.Omega.{arith}
 use lib.ListN.{getD, set}
+use lib.Seq.{getD-set-other}
 use lib.Dec.{eqb}
 use borrow.Author.Tests.{eq-eqb, ne-eqb}
-use Rattle.scenario.specs.Rows.{Row, Run, meets}
+use Rattle.scenario.specs.Rows.{Row, point, next, last, earlier, later, before, apart, same, free, within, outside, event, Run, meets, introduced}
 use Rattle.scenario.specs.Walk.{lowest-above, highest-below}
 use Rattle.scenario.specs.Log.{hasAt}
 use Rattle.scenario.specs.Fields.{Tagged}
+use Rattle.scenario.specs.Reading.{All}
 use Rattle.runlog.specs.Held.{Held, part, runAt, orZero}
 use Rattle.pattern.specs.Decode.{decode, by, rowAt, listed}
 use Rattle.runlog.proofs.Logs.{part-length}
@@ -110,6 +112,30 @@ module _ (ticks events E : List ℕ) (n kind p q a b y : ℕ) (H : Held ticks ev
       → (r : Bool) → r ≡ meets (runAt ticks events n) (by E) (decode kind p q a b) → Advanced E here r E
   advanced-test c d e f g r er =
       told (stayIn r E) r E (test kind c d e f g ∙ ap (λ (t : Bool). stayIn t E) (sym er)) (sym (stay-met r E), sym (stay-env r E))
+
+-- One row further, a point that the row does not introduce keeps its position.
+module _ (run : Run) (E : List ℕ) (m : ℕ) where
+  onto-keeps : (b : Bool) (p x : ℕ) → (m ≡ p → ⊥) → getD (orKeep E (cond b none (some (set E p x)))) m 0 ≡ getD E m 0
+  onto-keeps true p x n = refl
+  onto-keeps false p x n = getD-set-other E p m x 0 n
+
+  stay-keeps : (b : Bool) → getD (orKeep E (stayIn b E)) m 0 ≡ getD E m 0
+  stay-keeps b = ap (λ (z : List ℕ). getD z m 0) (stay-env b E)
+
+  pub advance-keeps : (k : Row) → All (λ (p : ℕ). m ≡ p → ⊥) (introduced k) → getD (orKeep E (advanceIn run E k)) m 0 ≡ getD E m 0
+  unfolding advanceIn
+  advance-keeps (point p s) n = refl
+  advance-keeps (next p q s) n = onto-keeps (eqb (orZero (lowest-above (run .has s) (getD E q 0) (run .lines - getD E q 0))) 0) p (orZero (lowest-above (run .has s) (getD E q 0) (run .lines - getD E q 0))) (n .0)
+  advance-keeps (last p q s) n = onto-keeps (eqb (orZero (highest-below (run .has s) (getD E q 0))) 0) p (orZero (highest-below (run .has s) (getD E q 0))) (n .0)
+  advance-keeps (earlier p q a) n = onto-keeps false p (min (getD E q 0) (getD E a 0)) (n .0)
+  advance-keeps (later p q a) n = onto-keeps false p (max (getD E q 0) (getD E a 0)) (n .0)
+  advance-keeps (before p q) n = stay-keeps (meets run (by E) (before p q))
+  advance-keeps (apart p q) n = stay-keeps (meets run (by E) (apart p q))
+  advance-keeps (same p q) n = stay-keeps (meets run (by E) (same p q))
+  advance-keeps (free p q s) n = stay-keeps (meets run (by E) (free p q s))
+  advance-keeps (within p q lo hi) n = stay-keeps (meets run (by E) (within p q lo hi))
+  advance-keeps (outside p q lo hi) n = stay-keeps (meets run (by E) (outside p q lo hi))
+  advance-keeps (event p s) n = stay-keeps (meets run (by E) (event p s))
 
 -- Rows
 

@@ -1,14 +1,16 @@
 -- The walk over a consequent as it goes: positions in an array by point number, rows in memory, six numbers to a row.
 -- Assumes nothing.
+use mathlib.Core.Path.{_≡_}
 use mathlib.Core.Bool.{Bool, true, false, cond}
 use mathlib.Core.Option.{Option, none, some}
 use mathlib.Core.List.{List, [], _∷_}
 use Prim.Native.Nat.{ℕ, zero, suc, _-_, _*_, min, max}
-use lib.ListN.{getD, set}
+use lib.ListN.{length, getD, set}
 use lib.Dec.{eqb}
-use Rattle.scenario.specs.Rows.{Row, point, next, last, earlier, later, before, apart, same, free, within, outside, event, Run, meets}
+use Rattle.scenario.specs.Rows.{Row, point, next, last, earlier, later, before, apart, same, free, within, outside, event, Run, meets, introduced}
 use Rattle.scenario.specs.Walk.{lowest-above, highest-below}
 use Rattle.scenario.specs.Fields.{Tagged}
+use Rattle.scenario.specs.Reading.{All}
 use Rattle.pattern.specs.Decode.{by, rowAt, listed}
 use Rattle.runlog.specs.Held.{orZero}
 use Rattle.verdict.specs.declared.Faults.{Faults}
@@ -68,3 +70,12 @@ unfoldable pub faultsIn : Run → List Tagged → List ℕ → (c left : ℕ) �
 faultsIn run ts E c zero rows = faulty true rows
 faultsIn run ts E c (suc left) rows =
     cond (eqb (faultIn run (suc c) E 0 ts) 0) (faulty false rows) (faultsIn run ts E (suc c) left (set rows c (faultIn run (suc c) E 0 ts)))
+
+-- Where t is a row of a consequent, it does not introduce the point m.
+abbrev pub Elsewhere : ℕ → Tagged → Type 0
+Elsewhere m t = (t .section ≡ 0 → ⊥) → All (λ (p : ℕ). m ≡ p → ⊥) (introduced (t .row))
+
+-- E' has the positions that E has, but for those of points that consequents introduce.
+pub record Kept (ts : List Tagged) (E E' : List ℕ) : Type 0 where
+  pub size : length E' ≡ length E
+  pub same : (m : ℕ) → All (Elsewhere m) ts → getD E' m 0 ≡ getD E m 0
