@@ -1,3 +1,4 @@
+pub mod Standing
 pub mod Steps
 pub mod Jump
 pub mod Links
