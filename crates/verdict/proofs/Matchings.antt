@@ -27,7 +27,7 @@ use Rattle.scenario.proofs.Agreement.{Base, is-start, is-close, is-antecedent}
 use Rattle.runlog.specs.Held.{Held, runAt}
 use Rattle.pattern.specs.Decode.{by, rowAt, listed, rowsOf}
 use Rattle.search.specs.Matching.{after, next-matching, isFound}
-use Rattle.search.specs.Placing.{dueOf, ready, planOf, Prepared, Fixture, Latest}
+use Rattle.search.specs.Placing.{dueOf, ready, planOf, Prepared, Fixture, Latest, Begun}
 use Rattle.runlog.proofs.Logs.{seen-laws, part-length}
 use Rattle.search.proofs.Finding.{blank as blank-env, planned}
 use Rattle.search.proofs.Found.{search-none}
@@ -40,7 +40,7 @@ use Rattle.verdict.specs.Memory.{sheetAt, SheetHeld, leading, Antecedent
 use Rattle.verdict.proofs.Consequents.{tag, faults-length, all-halt, fault-rows, base-elsewhere}
 use Rattle.search.proofs.Steps.{never}
 use Rattle.search.proofs.Matchings.{lex-first, past, past-below}
-use Rattle.search.proofs.Turn.{still, turn-keeps, turn-none, turn-matches, turn-hit, turn-miss, turn-last, turn-on, turn-falls, point-small, point-line, passed-is, passed-keeps}
+use Rattle.search.proofs.Turn.{still, turn-keeps, turn-none, turn-matches, turn-hit, turn-miss, turn-last, turn-on, turn-falls, point-small, point-on, passed-is, passed-keeps, passed-begun}
 
 -- The antecedent's rows stand first.
 
@@ -318,7 +318,7 @@ module _ (ticks events : List ℕ) (n : ℕ) (H : Held ticks events n) (rows : L
         pub loop-room : (i : ℕ) → i < np → (getD pts i 0 < 100) × (getD E″ (getD pts i 0) 0 ≤ 4000)
         loop-room i h = (
           point-small run n rows slots antecedent pts np (blank-env (n + 1)) (prepared re) (is-violating run sheet) only i h,
-          omega (arith, point-line run n rows slots antecedent pts np (blank-env (n + 1)) (prepared re) (is-violating run sheet) only E″ (subst (All (λ (x : ℕ). (1 ≤ x) × (x ≤ run .lines))) (sym places-kept) loop-on) i h, part-length events n (H .lines .room), H .lines .few),
+          omega (arith, point-on run n rows slots antecedent pts np (blank-env (n + 1)) (prepared re) (is-violating run sheet) only E″ (subst (All (λ (x : ℕ). (1 ≤ x) × (x ≤ run .lines))) (sym places-kept) loop-on) i h .1, part-length events n (H .lines .room), H .lines .few),
         )
 
         pub loop-hit : f .all ≡ true → (at : List ℕ) → at ≡ map (by E″) (take np pts) ++ drop np (replicate 4 0)
@@ -352,6 +352,10 @@ module _ (ticks events : List ℕ) (n : ℕ) (H : Held ticks events n) (rows : L
 
           pub pass-keeps : Fixture run E‴
           pass-keeps = subst (Fixture run) (sym ep) (passed-keeps run n rows slots antecedent pts np (blank-env (n + 1)) (prepared re) (is-violating run sheet) only some E″ walk-keeps)
+
+          pub pass-begun : Begun run n rows slots antecedent pts np E‴
+          pass-begun = subst (Begun run n rows slots antecedent pts np) (sym ep)
+              (passed-begun run n rows slots antecedent pts np (blank-env (n + 1)) (prepared re) (is-violating run sheet) only some E″ walk-keeps (subst (λ (z : List ℕ). T (matching run rs z)) (sym places-kept) match-there))
 
           pub pass-below : All (λ (x : ℕ). x < run .lines + 2) (map (by E‴) (points rs))
           pass-below = subst (All (λ (x : ℕ). x < run .lines + 2)) (sym passed)

@@ -109,5 +109,5 @@ module _ (s l : List ℕ) where
         ∙ ap₂ (λ (g : Log) (z : Sheet). verdictOf (runOf g) z (check (runOf g) z)) (D .is) (sheet-is s sheet-taken-in m₀ m room em)
         ∙ sym (check-is s l (record { sheet = sheet-taken-in; log = log-taken-in }))
 
-pub zeros : 1056 ≤ length {A = ℕ} (replicate 1056 0)
+pub zeros : 1056 ≤ length {A = ℕ} (replicate 1200 0)
 zeros = omega arith

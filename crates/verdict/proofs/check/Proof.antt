@@ -47,12 +47,6 @@ returns-2 c =
     (y .result .refusal) (ap (λ (z : LogAnswer). z .refusal) (y .ensures .0)) (c .before .if2 .taken) in
     (q, demanded (s .args .sheet .now) (s .args .log .now) _ q)
 
-slice-aggregate-check-rows : tie.Need-slice-aggregate-check-rows
-slice-aggregate-check-rows c = search needs
-
-slice-aggregate-check-rows-2 : tie.Need-slice-aggregate-check-rows-2
-slice-aggregate-check-rows-2 c = search needs
-
 cast-check-rows : tie.Need-cast-check-rows
 cast-check-rows c =
     let k = c in
@@ -61,10 +55,7 @@ cast-check-rows c =
     let s = k .before .before .before .before .before .before .before .before .before .before .before .before .before .before .before .before .before in
     let e = k .before .before .before .if2 .left in
     let a = s .args in
-    record { fits = omega (arith, small-lines (a .sheet .now) (a .log .now) (x .result) (x .ensures .0) (k .before .before .before .before .before .before .before .before .before .before .if1 .left) (y .result) (y .ensures .0) e (replicate 1056 0) (x .last .1 .0) zeros (x .ensures .1) (y .last .1 .0) (y .last .1 .1 .0) (y .ensures .1 e)) }
-
-slice-aggregate-check-rows-3 : tie.Need-slice-aggregate-check-rows-3
-slice-aggregate-check-rows-3 c = search needs
+    record { fits = omega (arith, small-lines (a .sheet .now) (a .log .now) (x .result) (x .ensures .0) (k .before .before .before .before .before .before .before .before .before .before .if1 .left) (y .result) (y .ensures .0) e (replicate 1200 0) (x .last .1 .0) zeros (x .ensures .1) (y .last .1 .0) (y .last .1 .1 .0) (y .ensures .1 e)) }
 
 cast-check-rows-2 : tie.Need-cast-check-rows-2
 cast-check-rows-2 c =
@@ -74,7 +65,7 @@ cast-check-rows-2 c =
     let s = k .before .before .before .before .before .before .before .before .before .before .before .before .before .before .before .before .before in
     let e = k .before .before .before .if2 .left in
     let a = s .args in
-    record { fits = omega (arith, small-rows (a .sheet .now) (a .log .now) (x .result) (x .ensures .0) (k .before .before .before .before .before .before .before .before .before .before .if1 .left) (y .result) (y .ensures .0) e (replicate 1056 0) (x .last .1 .0) zeros (x .ensures .1) (y .last .1 .0) (y .last .1 .1 .0) (y .ensures .1 e)) }
+    record { fits = omega (arith, small-rows (a .sheet .now) (a .log .now) (x .result) (x .ensures .0) (k .before .before .before .before .before .before .before .before .before .before .if1 .left) (y .result) (y .ensures .0) e (replicate 1200 0) (x .last .1 .0) zeros (x .ensures .1) (y .last .1 .0) (y .last .1 .1 .0) (y .ensures .1 e)) }
 
 check-rows-requires : tie.Need-check-rows-requires
 check-rows-requires c κs =
@@ -84,7 +75,7 @@ check-rows-requires c κs =
     let s = k .before .before .before .before .before .before .before .before .before .before .before .before .before .before .before .before .before in
     let e = k .before .before .before .if2 .left in
     let a = s .args in
-    (held-here (a .sheet .now) (a .log .now) (x .result) (x .ensures .0) (k .before .before .before .before .before .before .before .before .before .before .if1 .left) (y .result) (y .ensures .0) e (replicate 1056 0) (x .last .1 .0) zeros (x .ensures .1) (y .last .1 .0) (y .last .1 .1 .0) (y .ensures .1 e), sheet-held-here (a .sheet .now) (a .log .now) (x .result) (x .ensures .0) (k .before .before .before .before .before .before .before .before .before .before .if1 .left) (y .result) (y .ensures .0) e (replicate 1056 0) (x .last .1 .0) zeros (x .ensures .1) (y .last .1 .0) (y .last .1 .1 .0) (y .ensures .1 e))
+    (held-here (a .sheet .now) (a .log .now) (x .result) (x .ensures .0) (k .before .before .before .before .before .before .before .before .before .before .if1 .left) (y .result) (y .ensures .0) e (replicate 1200 0) (x .last .1 .0) zeros (x .ensures .1) (y .last .1 .0) (y .last .1 .1 .0) (y .ensures .1 e), sheet-held-here (a .sheet .now) (a .log .now) (x .result) (x .ensures .0) (k .before .before .before .before .before .before .before .before .before .before .if1 .left) (y .result) (y .ensures .0) e (replicate 1200 0) (x .last .1 .0) zeros (x .ensures .1) (y .last .1 .0) (y .last .1 .1 .0) (y .ensures .1 e))
 
 returns-3 : tie.Need-returns-3
 returns-3 c =
@@ -94,7 +85,7 @@ returns-3 c =
     let s = k .before .before .before .before .before .before .before .before .before .before .before .before .before .before .before .before .before in
     let e = k .before .before .before .if2 .left in
     let a = s .args in
-    let q = checked (a .sheet .now) (a .log .now) (x .result) (x .ensures .0) (k .before .before .before .before .before .before .before .before .before .before .if1 .left) (y .result) (y .ensures .0) e (replicate 1056 0) (x .last .1 .0) zeros (x .ensures .1) (y .last .1 .0) (y .last .1 .1 .0) (y .ensures .1 e) (c .check-rows .result) (c .check-rows .ensures) in
+    let q = checked (a .sheet .now) (a .log .now) (x .result) (x .ensures .0) (k .before .before .before .before .before .before .before .before .before .before .if1 .left) (y .result) (y .ensures .0) e (replicate 1200 0) (x .last .1 .0) zeros (x .ensures .1) (y .last .1 .0) (y .last .1 .1 .0) (y .ensures .1 e) (c .check-rows .result) (c .check-rows .ensures) in
     (q, demanded (a .sheet .now) (a .log .now) _ q)
 
 pub check-spec : {M : Type 1} → statement M
@@ -110,10 +101,7 @@ check-spec =
     load-log-requires
     unviolated-requires-2
     returns-2
-    slice-aggregate-check-rows
-    slice-aggregate-check-rows-2
     cast-check-rows
-    slice-aggregate-check-rows-3
     cast-check-rows-2
     check-rows-requires
     returns-3)
