@@ -15,7 +15,6 @@ use Rattle.scenario.specs.Log as logs
 use Rattle.scenario.specs.Walk as walks
 use Rattle.scenario.specs.Search as searches
 use Rattle.scenario.specs.Fields as fields
-use Rattle.sheet.specs.declared.Line.{Line}
 use Rattle.sheet.specs.Row as row
 use Rattle.sheet.specs.Reading as reading
 use Rattle.sheet.specs.Text as text

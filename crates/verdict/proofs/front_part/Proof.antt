@@ -1,5 +1,4 @@
 -- `front_part` meets its contract: by whether the text is shorter.
-use borrow.Author.Needs.{needs}
 use lib.ListN.{length}
 use Rattle.verdict.proofs.Showing.{front-all, front-most}
 use Rattle.verdict.proofs.front_part.Statement.{statement}

@@ -1,6 +1,5 @@
 -- `show_line` meets its contract: the part lies inside its text, and is the definition's.
 use borrow.Author.Needs.{needs}
-use mathlib.Core.Path.{_∙_}
 use Rattle.verdict.proofs.Showing.{end-log, end-sheet, shown-log, shown-sheet}
 use Rattle.verdict.proofs.show_line.Statement.{statement}
 use Rattle.verdict.proofs.show_line.Tie as tie
