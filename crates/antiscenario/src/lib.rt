@@ -338,7 +338,7 @@ fn copy_section(rows: &[u32], n: usize, section: u32, out: &mut [u32]) -> usize
 }
 
 // Stores the rows of antiscenario j + 1 of a sheet in memory, whose count is given; gives how many.
-pub fn build(rows: &[u32], n: usize, k: u32, count: u64, j: u64, out: &mut [u32]) -> usize
+fn build(rows: &[u32], n: usize, k: u32, count: u64, j: u64, out: &mut [u32]) -> usize
     requires { ⌜ (1056 ≤ length (now rows)) × (n ≤ 176) × (k ≤ 6) × (1 ≤ count) × (count ≡ product 1 k (linesIn (now rows) 0 n)) ⌝ }
     ensures ends { λ r. ⌜ r ≡ length (built (now (rows .entry)) n k j) ⌝ }
     ensures memory { λ r. ⌜ now (out .exit) ≡ lay 0 (built (now (rows .entry)) n k j) (now (out .entry)) ⌝ }

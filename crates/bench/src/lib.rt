@@ -1,7 +1,6 @@
 // The C interface, a static library: each operation of document 01 for a host. Its answer is one number, its findings go to the
 // caller's memory, and a refusal writes nowhere. include/satskhubo.h says the same to the host's author.
 ghost use mathlib.Core.Path.{_≡_};
-ghost use mathlib.Core.List.{_++_};
 ghost use Prim.Native.Nat.{_-_, _≤_};
 ghost use lib.ListN.{length};
 ghost use Rattle.columns.specs.Number.{fieldAt};

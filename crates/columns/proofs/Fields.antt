@@ -1,21 +1,21 @@
 -- The laws of fields, at any width: what is written is read back, what is read was written so, and nothing else is looked at.
 -- Assumes nothing.
-use mathlib.Core.Path.{_≡_, refl, sym, ap, _∙_}
-use mathlib.Core.List.{List, _++_, append-assoc}
+use mathlib.Core.Path.{_≡_}
+use mathlib.Core.List.{List, _++_}
 use mathlib.Core.Bool.{true}
-use Prim.Native.Nat.{ℕ, _+_, _-_, _^_, _≤_, _<_}
+use Prim.Native.Nat.{ℕ, _+_, _-_, _≤_}
 use native.Mathlib.Omega.{arith}
 use lib.ListN.{length, take, drop, length-append}
 use lib.Seq.{take-at, drop-at, length-take-le}
 use lib.Dec.{leb}
 use borrow.Author.Tests.{le-leb, leb-true}
-use Rattle.columns.specs.Number.{numeral, afterSpaces, fieldAt}
+use Rattle.columns.specs.Number.{fieldAt}
 use Rattle.columns.specs.Spell.{spell, fitsIn}
 use Rattle.columns.specs.Entry.{hasField, entered}
 use Rattle.columns.specs.declared.Field.the-variants.{Value}
 use Rattle.columns.proofs.Both.{both}
 use Rattle.columns.proofs.Fits.{fits-parts}
-use Rattle.columns.proofs.Spelling.{spell-read, spell-length, only-spelling}
+use Rattle.columns.proofs.Spelling.{spell-read, only-spelling}
 
 -- whatever stands after the field does not matter
 pub rest-is-unread : (s rest : List ℕ) (w : ℕ) → w ≤ length s → fieldAt (take w s ++ rest) w ≡ fieldAt s w

@@ -12,7 +12,8 @@ use borrow.Author.Tests.{leb-true}
 use Rattle.columns.specs.Number.{afterSpaces, allDigits, decimal, wellLed, scan, numeral, fieldAt}
 use Rattle.columns.specs.Spell.{spell}
 use Rattle.columns.specs.declared.Field.the-variants.{Value, Bad}
-use Rattle.columns.proofs.Spelling.{bad-not, spell-length, only-spelling}
+use Rattle.columns.proofs.Padded.{bad-not}
+use Rattle.columns.proofs.Spelling.{spell-length, only-spelling}
 
 module _ (w v : ℕ) where
   spell-drop : (rest : List ℕ) → drop w (spell w v ++ rest) ≡ rest

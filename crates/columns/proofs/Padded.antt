@@ -15,8 +15,8 @@ use Rattle.columns.specs.declared.Field.the-variants.{Value, Bad}
 abbrev pub spaces : ℕ → List ℕ
 spaces m = replicate m 32
 
-bad-not-value : (v : ℕ) → Bad ≡ Value v → ⊥
-bad-not-value v h = let z : _≡_ {A = ℕ} 0 1 = cc in omega arith
+pub bad-not : (v : ℕ) → Bad ≡ Value v → ⊥
+bad-not v h = let z : _≡_ {A = ℕ} 0 1 = cc in omega arith
 
 -- a numeral does not begin with a space
 no-space : (d : List ℕ) → numeral (32 ∷ d) ≡ Bad
@@ -28,7 +28,7 @@ after-at : (t : Bool) (b v : ℕ) (d : List ℕ) → eqb b 32 ≡ t → numeral 
 after-at false b v d e h = rw e
 after-at true b v d e h =
     let s : b ≡ 32 = eqb-true b 32 e in
-    absurd (bad-not-value v (sym (no-space d) ∙ (rw s at h)))
+    absurd (bad-not v (sym (no-space d) ∙ (rw s at h)))
 
 after-none : (d : List ℕ) (v : ℕ) → numeral d ≡ Value v → afterSpaces d ≡ d
 after-none [] v h = refl

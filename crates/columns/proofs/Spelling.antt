@@ -14,7 +14,7 @@ use Rattle.columns.specs.Number.{afterSpaces, isDigit, allDigits, decima
 use Rattle.columns.specs.Spell.{lastByte, leftByte, left, spell}
 use Rattle.columns.specs.declared.Field.the-variants.{Value, Bad}
 use Rattle.columns.proofs.Both.{both, pair}
-use Rattle.columns.proofs.Padded.{spaces, padded}
+use Rattle.columns.proofs.Padded.{bad-not, spaces, padded}
 
 -- d is v without leading zeros, and nothing where v is 0
 data Digits : List ℕ → ℕ → Type 0 where
@@ -204,9 +204,6 @@ record Numeral (l : List ℕ) (v : ℕ) : Type 0 where
   led : wellLed l ≡ true
   digits : allDigits l ≡ true
   value : decimal 0 l ≡ v
-
-pub bad-not : (v : ℕ) → Bad ≡ Value v → ⊥
-bad-not v h = let z : _≡_ {A = ℕ} 0 1 = cc in omega arith
 
 numeral-is : (l : List ℕ) (v : ℕ) → numeral l ≡ Value v → Numeral l v
 unfolding numeral scan

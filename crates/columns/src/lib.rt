@@ -113,7 +113,7 @@ fn left_byte(v: u32) -> u8
 }
 
 // Whether v has a spelling in `width` columns.
-pub fn fits_in(width: usize, v: u32) -> bool
+fn fits_in(width: usize, v: u32) -> bool
     ensures { λ r. ⌜ r ≡ fitsIn width v ⌝ }
 {
     if width == 0 {

@@ -3,7 +3,6 @@
 //     operations write SHEET FIRST LAST      for each number: refusal (3), number (11), length (6); then the text
 //     operations find SHEET LOG FIRST LAST   for each number: refusal (3), number (11), found (3), the positions (5 each)
 //     operations show SHEET LOG              the check's refusal (3), of the log (3), offset (11), length (11)
-ghost use Prim.Native.Nat.{_≤_};
 use libc::STDERR_FILENO;
 use libc::STDOUT_FILENO;
 

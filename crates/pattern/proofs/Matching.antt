@@ -2,7 +2,7 @@
 -- Assumes nothing.
 use mathlib.Core.Path.{_≡_, refl, sym, ap, ap₂, _∙_}
 use mathlib.Core.Bool.{Bool, true, false, _&&_}
-use mathlib.Core.List.{List, [], _∷_, map}
+use mathlib.Core.List.{List, [], _∷_}
 use Prim.Native.Nat.{ℕ, suc, _+_, _-_, _≤_, _<_}
 use native.Mathlib.Numerals.{add-one}
 use native.Mathlib.Omega.{arith}
@@ -14,7 +14,7 @@ use Rattle.scenario.specs.Rows.{Row, Run, Env, meets, introduced, needs, points
 use Rattle.scenario.specs.Sheet.{env, all, is-line, matching}
 use Rattle.scenario.specs.Reading.{All, Ordinary, Pattern}
 use Rattle.scenario.proofs.Base.{all-map, all-elem, elem-at, elem-front, elem-back}
-use Rattle.scenario.proofs.Rules.{Fixed, Agree, meets-same}
+use Rattle.scenario.proofs.Rules.{Fixed, meets-same}
 use Rattle.scenario.proofs.Place.{env-map}
 use Rattle.runlog.specs.Held.{Held, runAt}
 use Rattle.runlog.proofs.Logs.{part-length}

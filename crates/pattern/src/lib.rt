@@ -167,7 +167,7 @@ pub fn meets(ticks: &[u32], events: &[u32], n: u32, env: &[u32], row: Row) -> bo
     }
 }
 
-pub fn introduces(kind: u32) -> bool
+fn introduces(kind: u32) -> bool
     ensures { λ r. ⌜ r ≡ (leb 1 kind && leb kind 5) ⌝ }
 {
     if kind < 1 {

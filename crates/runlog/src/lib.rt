@@ -110,7 +110,7 @@ fn no_head(refusal: u32) -> Head
 }
 
 // The first line, and whether the length is what its line count asks.
-pub fn first_line(log: &[u8]) -> Head
+fn first_line(log: &[u8]) -> Head
     ensures { λ r. ⌜ r ≡ headOf (now (log .entry)) ⌝ }
 {
     if log.len() < FIRST_BYTES {
@@ -144,7 +144,7 @@ pub fn first_line(log: &[u8]) -> Head
 }
 
 // A line in 15 bytes, after a line with the tick last: each field's answer is taken apart, and its refusal returns.
-pub fn check_line(line: &[u8], last: u32) -> LineRead
+fn check_line(line: &[u8], last: u32) -> LineRead
     requires { ⌜ length (now line) ≡ 15 ⌝ }
     ensures { λ r. ⌜ r ≡ lineOf last (now (line .entry)) ⌝ }
 {
@@ -167,7 +167,7 @@ pub fn check_line(line: &[u8], last: u32) -> LineRead
 }
 
 // Reads n lines into the memory, until one is refused.
-pub fn read_lines(log: &[u8], n: usize, start: u32, ticks: &mut [u32], events: &mut [u32]) -> Fault
+fn read_lines(log: &[u8], n: usize, start: u32, ticks: &mut [u32], events: &mut [u32]) -> Fault
     requires { ⌜ (n ≤ 4000) × (28 + 15 * n ≤ length (now log)) × (4000 ≤ length (now ticks)) × (4000 ≤ length (now events)) ⌝ }
     ensures refusal { λ r. ⌜ r .refusal ≡ linesFrom (now (log .entry)) 0 n start .number ⌝ }
     ensures line { λ r. ⌜ r .line ≡ linesFrom (now (log .entry)) 0 n start .line ⌝ }
@@ -217,7 +217,7 @@ fn no_log(refusal: u32, line: u32) -> Answer
 }
 
 // Reads a log: the lines that come before a refusal are in memory, ticks and events each from the front.
-pub fn fill_log(log: &[u8], ticks: &mut [u32], events: &mut [u32]) -> Answer
+fn fill_log(log: &[u8], ticks: &mut [u32], events: &mut [u32]) -> Answer
     requires { ⌜ (4000 ≤ length (now ticks)) × (4000 ≤ length (now events)) ⌝ }
     ensures answers { λ r. ⌜ r ≡ answer (now (log .entry)) ⌝ }
     ensures ticks { λ _. ⌜ now (ticks .exit) ≡ lay 0 (taken (now (log .entry)) .ticks) (now (ticks .entry)) ⌝ }
@@ -303,7 +303,7 @@ pub fn clear(events: &[u32], n: u32, s: u64, x: u32, y: u32) -> bool
 }
 
 // The tick of position x: the close's for every position past the lines.
-pub fn tick_at(ticks: &[u32], n: u32, x: u32) -> u32
+fn tick_at(ticks: &[u32], n: u32, x: u32) -> u32
     requires { ⌜ (n + 1 < length (now ticks)) × (n ≤ 4000) ⌝ }
     ensures { λ r. ⌜ r ≡ tickOf (now (ticks .entry)) n x ⌝ }
 {

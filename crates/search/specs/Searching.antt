@@ -2,16 +2,17 @@
 -- Assumes nothing.
 use mathlib.Core.Path.{_≡_}
 use mathlib.Core.Logic.{_↔_}
-use mathlib.Core.Bool.{cond, _&&_, not, false, true, Bool}
+use mathlib.Core.Bool.{cond, not, false, true, Bool}
 use mathlib.Core.List.{List, _++_}
 use Prim.Native.Nat.{ℕ}
 use lib.ListN.{length, drop}
-use lib.Dec.{eqb, leb, ltb, T}
+use lib.Dec.{eqb, ltb, T}
 use Rattle.scenario.specs.Rows.{Row, Run, points}
 use Rattle.scenario.specs.Sheet.{Answer, antiscenario, matching, Smallest}
 use Rattle.scenario.specs.Search.{smallest-matching}
-use Rattle.sheet.specs.Reading.{answer as sheet-answer, sheetIn, countIn}
-use Rattle.runlog.specs.Log.{answer as log-answer, runIn}
+use Rattle.sheet.specs.Reading.{sheetIn}
+use Rattle.runlog.specs.Log.{runIn}
+use Rattle.antiscenario.specs.Judge.{refusalOf}
 use Rattle.search.specs.declared.SearchAnswer.{SearchAnswer}
 use Rattle.search.specs.Matching.{filled, isFound}
 
@@ -35,13 +36,10 @@ searched places a = record { refusal = 0; hit = isFound a; places = filled place
 abbrev pub searchRows : Run → List Row → (places : List ℕ) → Searched
 searchRows run rs places = cond (ltb (length places) (length (points rs))) (unsearched 33 places) (searched places (smallest-matching run rs))
 
--- the sheet's refusals, the log's, 31 m not in 1 to N; else the search of the antiscenario's rows
+-- "Sheet's refusals, the log's, 31"; else the search of the antiscenario's rows
 unfoldable pub searchOf : (s l : List ℕ) (m : ℕ) (places : List ℕ) → Searched
 searchOf s l m places =
-    cond (not (eqb (sheet-answer s .refusal) 0)) (unsearched (sheet-answer s .refusal) places)
-    (cond (not (eqb (log-answer l .refusal) 0)) (unsearched (log-answer l .refusal) places)
-    (cond (not (leb 1 m && leb m (countIn s))) (unsearched 31 places)
-    (searchRows (runIn l) (antiscenario (sheetIn s) m) places)))
+    cond (not (eqb (refusalOf s l m) 0)) (unsearched (refusalOf s l m) places) (searchRows (runIn l) (antiscenario (sheetIn s) m) places)
 
 -- a search says "none", and leaves all places as they were
 pub record SaysNone (r : Searched) (places : List ℕ) : Type 0 where

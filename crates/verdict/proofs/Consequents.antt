@@ -5,7 +5,7 @@ use mathlib.Core.Logic.{_⊎_, inl, inr, ⊎-elim}
 use mathlib.Core.Bool.{Bool, true, false, _&&_, _||_, cond}
 use mathlib.Core.Option.{Option, none, some}
 use mathlib.Core.List.{List, [], _∷_, _++_, map}
-use Prim.Native.Nat.{ℕ, zero, suc, _+_, _-_, _*_, _≤_, _<_, min, max}
+use Prim.Native.Nat.{ℕ, suc, _+_, _-_, _*_, _≤_, _<_, min, max}
 use native.Mathlib.Numerals.{add-one}
 use native.Mathlib.Omega.{arith}
 use lib.ListN.{length, getD, set, drop, replicate, length-set}
@@ -17,7 +17,7 @@ use Rattle.scenario.specs.Walk.{placing, lowest-above, highest-below, onto, sta
 use Rattle.scenario.specs.Sheet.{Sheet, all, env}
 use Rattle.scenario.specs.Search.{stopped, place-of, faults}
 use Rattle.scenario.specs.Fields.{Tagged, tagged}
-use Rattle.scenario.proofs.Base.{tell, is-true, is-false, neqb→neq, Order, lower, level, upper, order, all-map, all-append, all-front, all-back, Up, Down, scan-up, scan-down}
+use Rattle.scenario.proofs.Base.{tell, is-true, is-false, neqb→neq, Order, lower, level, upper, order, all-map, all-append, all-front, all-back, all-at, Up, Down, scan-up, scan-down}
 use Rattle.scenario.specs.Reading.{All}
 use Rattle.scenario.proofs.Rules.{Laws, meets-same}
 use Rattle.scenario.proofs.Section.{Known, Fits, Ready, all-of-map}
@@ -25,8 +25,9 @@ use Rattle.scenario.proofs.Glue.{Section, Sections}
 use Rattle.scenario.proofs.Agreement.{Base, Sound}
 use Rattle.scenario.proofs.Reading.{sound}
 use Rattle.runlog.proofs.Whole.{lay-is}
+use Rattle.search.proofs.Found.{listed-mem}
 use Rattle.verdict.specs.Check.{front}
-use Rattle.pattern.specs.Decode.{by, rowAt, listed}
+use Rattle.pattern.specs.Decode.{by, rowAt}
 use Rattle.runlog.specs.Held.{orZero}
 use Rattle.runlog.specs.Log.{lay}
 use Rattle.verdict.specs.Consequents.{ontoIn, stayIn, advanceIn, orKeep, tagAt, tagsOf, onward, faultIn, faulty, faultsIn, Elsewhere, Kept}
@@ -261,17 +262,6 @@ module _ (base : ℕ → Type 0) (m : ℕ) (b : base m) where
       all-append (Elsewhere m) (map (tag i) c) (tagged (suc i) cs)
       (rows-elsewhere i (10 * i + 9) [] c (X .0 .ready)) (sections-elsewhere (suc i) cs (X .1))
 
--- what all the listed have, each has
-listed-at : (P : Tagged → Type 0) (f : ℕ → Tagged) (left j i : ℕ) → j ≤ i → i < j + left → All P (listed f j left) → P (f i)
-unfolding listed
-listed-at P f zero j i l h a = absurd (omega arith)
-listed-at P f (suc left) j i l h a = go (order j i) (λ q. listed-at P f left (suc j) i q (omega arith) (a .1))
-  where
-    go : Order j i → (j < i → P (f i)) → P (f i)
-    go (lower q) r = r q
-    go (level q) r = subst (λ (z : ℕ). P (f z)) q (a .0)
-    go (upper q) r = absurd (omega arith)
-
 -- nothing is done, and one thing after another
 pub kept-all : (ts : List Tagged) (E : List ℕ) → Kept ts E E
 kept-all ts E = record { size = refl; same = λ m o. refl }
@@ -286,7 +276,7 @@ unfolding tagsOf
 row-keeps run rows count E E' j c s h es sc r er el ee = record {
   size = el;
   same = λ m o. ap (λ (z : List ℕ). getD z m 0) (ee ∙ ap (λ (z : Row). orKeep E (advanceIn run E z)) er)
-      ∙ advance-keeps run E m (rowAt rows j) (listed-at (Elsewhere m) (tagAt rows) count 0 j (omega arith) (omega arith) o (λ z. omega arith));
+      ∙ advance-keeps run E m (rowAt rows j) (all-at (Elsewhere m) (listed-mem (tagAt rows) 0 count j (omega arith) (omega arith)) o (λ z. omega arith));
 }
 
 -- Of a sheet in memory

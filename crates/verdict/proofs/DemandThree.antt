@@ -30,6 +30,7 @@ use Rattle.search.specs.Matching.{isFound, filled}
 use Rattle.verdict.specs.declared.Checked.{Checked}
 use Rattle.verdict.specs.Check.{Accepted, front, violatedAt, placementIn, rowsIn, verdictOf, checkOf}
 use Rattle.verdict.specs.Demands.{Denied, Unmatched, Enough, Finds, DemandThree}
+use Rattle.antiscenario.specs.Judge.{refusalOf}
 use Rattle.search.specs.Searching.{SaysNone, searchOf, searched, Searched}
 
 -- the first numbers are those of the first list
@@ -63,7 +64,7 @@ module _ (s l : List ℕ) (A : Accepted s l) where
   check-is = simp (eq-eqb (sheet-answer s .refusal) 0 (A .sheet), eq-eqb (log-answer l .refusal) 0 (A .log))
 
   pub search-is : (m : ℕ) → 1 ≤ m → m ≤ countIn s → (places : List ℕ) → length (points (antiscenario sheet m)) ≤ length places → searchOf s l m places ≡ searched places (F m)
-  unfolding searchOf
+  unfolding searchOf refusalOf
   search-is m a b places h =
       simp (eq-eqb (sheet-answer s .refusal) 0 (A .sheet), eq-eqb (log-answer l .refusal) 0 (A .log), le-leb 1 m a, le-leb m (countIn s) b, le-ltb (length places) (length (points (antiscenario sheet m))) h)
 

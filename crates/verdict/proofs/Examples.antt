@@ -21,6 +21,7 @@ use Rattle.sheet.specs.Text as text
 use Rattle.runlog.specs.Log as log
 use Rattle.antiscenario.specs.Write as writing
 use Rattle.antiscenario.specs.Build as building
+use Rattle.antiscenario.specs.Judge as judging
 use Rattle.search.specs.Matching as matchings
 use Rattle.search.specs.Searching as searching
 use Rattle.verdict.specs.Check.{front, violatedAt, verdictOf, checkOf, placementIn, rowsIn}
@@ -153,7 +154,7 @@ unfolding number.fieldAt number.numeral number.scan spelling.spell spelling.left
     sheets.count sheets.total sheets.choices sheets.choose sheets.chosen sheets.flat sheets.antiscenario sheets.matching sheets.all sheets.is-line sheets.env sheets.lookup
     logs.inSet logs.hasAt logs.tick logs.nearAt walks.placing walks.lowest-above walks.highest-below walks.advance walks.walk
     searches.sweep searches.least searches.smallest-matching searches.is-violating searches.check searches.faults
-    writing.writeOf writing.writtenText writing.writtenLines building.taggedLine building.lineFrom matchings.filled searching.searchOf
+    writing.writeOf writing.writtenText writing.writtenLines building.taggedLine building.lineFrom matchings.filled judging.refusalOf searching.searchOf
     checkOf verdictOf violatedAt front
 starred-examples = refl
 

@@ -3,11 +3,9 @@
 use borrow.Author.Needs.{needs}
 use borrow.Author.Tests.{not-true, not-false}
 use mathlib.Core.Path.{_≡_, sym, ap, _∙_}
-use mathlib.Core.List.{List}
 use native.Mathlib.Omega.{arith}
 use lib.ListN.{length}
 use Rattle.verdict.specs.declared.Checked.{Checked}
-use Rattle.verdict.specs.Check.{checkOf}
 use Rattle.verdict.proofs.Printing.{few}
 use Rattle.bench.specs.Host.{hostNumber, fronted}
 use Rattle.bench.proofs.Numbers.{number-refused, number-violated, number-holds, refused-unviolated, unviolated-keeps, violated-writes}

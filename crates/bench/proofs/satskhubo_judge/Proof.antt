@@ -1,7 +1,7 @@
 -- `satskhubo_judge` meets its contract: the answer is the operation's, and its refusal keeps what was lent.
 -- Assumes nothing.
 use borrow.Author.Needs.{needs}
-use mathlib.Core.Path.{_≡_, sym, ap, _∙_}
+use mathlib.Core.Path.{ap}
 use Rattle.antiscenario.specs.declared.Judged.{Judged}
 use Rattle.bench.proofs.Numbers.{refused-keeps, answered-writes}
 use Rattle.bench.proofs.satskhubo_judge.Statement.{statement}

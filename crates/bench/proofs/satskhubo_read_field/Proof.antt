@@ -1,7 +1,7 @@
 -- `satskhubo_read_field` meets its contract: the field's value, or what was there.
 -- Assumes nothing.
 use borrow.Author.Needs.{needs}
-use mathlib.Core.Path.{_≡_, sym, ap, _∙_}
+use mathlib.Core.Path.{sym, _∙_}
 use Rattle.bench.proofs.Numbers.{bad-field, good-field}
 use Rattle.bench.proofs.satskhubo_read_field.Statement.{statement}
 use Rattle.bench.proofs.satskhubo_read_field.Tie as tie

@@ -1,7 +1,7 @@
 -- `satskhubo_read_sheet` meets its contract: the answer is the operation's, and its refusal keeps what was lent.
 -- Assumes nothing.
 use borrow.Author.Needs.{needs}
-use mathlib.Core.Path.{_≡_, sym, ap, _∙_}
+use mathlib.Core.Path.{ap}
 use Rattle.sheet.specs.declared.SheetCount.{SheetCount}
 use Rattle.bench.proofs.Numbers.{refused-keeps, answered-writes}
 use Rattle.bench.proofs.satskhubo_read_sheet.Statement.{statement}

@@ -1,7 +1,7 @@
 -- `satskhubo_search` meets its contract: the answer and the places are the operation's, and its refusal keeps what was lent.
 -- Assumes nothing.
 use borrow.Author.Needs.{needs}
-use mathlib.Core.Path.{_≡_, sym, ap, _∙_}
+use mathlib.Core.Path.{ap}
 use Rattle.search.specs.Searching.{Searched}
 use Rattle.bench.proofs.Numbers.{refused-keeps, answered-writes}
 use Rattle.bench.proofs.satskhubo_search.Statement.{statement}

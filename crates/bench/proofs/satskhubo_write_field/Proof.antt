@@ -1,7 +1,7 @@
 -- `satskhubo_write_field` meets its contract: the answer and the buffer are the writer's.
 -- Assumes nothing.
 use borrow.Author.Needs.{needs}
-use mathlib.Core.Path.{_≡_, sym, ap, _∙_}
+use mathlib.Core.Path.{sym, ap, _∙_}
 use Rattle.bench.specs.Host.{entryNumber}
 use Rattle.bench.proofs.satskhubo_write_field.Statement.{statement}
 use Rattle.bench.proofs.satskhubo_write_field.Tie as tie
