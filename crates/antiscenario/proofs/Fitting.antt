@@ -1,32 +1,24 @@
 -- The numbers of an antiscenario fit their columns.
 -- Assumes nothing.
-use mathlib.Core.Path.{_≡_, refl, sym, ap, _∙_, subst}
-use mathlib.Core.Bool.{Bool, true, false, cond, _&&_}
+use mathlib.Core.Path.{_≡_, sym, subst}
+use mathlib.Core.Bool.{Bool, true, false, cond}
 use mathlib.Core.List.{List, [], _∷_, _++_, map}
-use Prim.Native.Nat.{ℕ, zero, suc, _+_, _*_, _-_, _/_, _%_, _^_, _≤_, _<_}
-use native.Mathlib.Nat.{mul-le-mul-right, pow-suc, pow-zero, pow-le-pow-right, mul-assoc, lt-of-lt-of-le}
+use Prim.Native.Nat.{ℕ, zero, suc, _+_, _*_, _-_, _/_, _%_, _≤_, _<_}
 use native.Mathlib.Omega.{arith}
-use lib.ListN.{length, take, drop, getD, replicate}
-use lib.Seq.{length-take-le}
-use lib.Dec.{eqb, leb, ltb, lit<}
-use borrow.Author.Tests.{leb-true}
-use Rattle.columns.specs.Number.{fieldAt, numeral, scan, afterSpaces, allDigits, decimal, wellLed}
+use lib.ListN.{length, getD, replicate}
+use lib.Dec.{eqb, ltb}
 use Rattle.columns.specs.Spell.{fitsIn}
-use Rattle.columns.specs.declared.Field.{Field}
-use Rattle.columns.specs.declared.Field.the-variants.{Value, Bad}
 use Rattle.columns.proofs.Fits.{parts-fit}
 use Rattle.scenario.specs.Rows.{Row, point, next, last, earlier, later, before, apart, same, free, within, outside, event, denying-rows, denying-free, End, start, close, inner, end, far-end, complement}
 use Rattle.scenario.specs.Fields.{Fields, fields}
 use Rattle.scenario.specs.Reading.{All}
 use Rattle.scenario.proofs.Base.{all-append}
 use Rattle.sheet.specs.declared.Line.{Line}
-use Rattle.sheet.specs.declared.Parsed.{Parsed}
-use Rattle.sheet.specs.declared.Parsed.the-variants.{Row as Parsed·row, Malformed}
-use Rattle.sheet.specs.declared.Stand.{Stand}
-use Rattle.sheet.specs.Row.{six, onField, lineOf, refusal, start as begin}
-use Rattle.sheet.specs.Reading.{headOf, Taken, onLine, after, rowBytes, rowsFrom, rowIn, taken, answer}
+use Rattle.sheet.specs.Row.{refusal}
+use Rattle.sheet.specs.Reading.{rowIn, taken, answer}
 use Rattle.sheet.specs.Memory.{lay, lineIn, linesIn, weighLine, product}
 use Rattle.sheet.specs.Text.{Fits}
+use Rattle.sheet.proofs.Theorems.{accepted-rows}
 use Rattle.antiscenario.specs.Build.{lineFrom, uses, marked, wanted, brought, own, denied, denialFrom, chosenFrom, ofSection, built}
 use Rattle.antiscenario.specs.Write.{writtenLines}
 use Rattle.antiscenario.proofs.Choice.{Fair}
@@ -39,107 +31,6 @@ three v h = parts-fit 3 v (omega arith) (omega (arith, h))
 
 pub eleven : (v : ℕ) → v ≤ 4294967295 → fitsIn 11 v ≡ true
 eleven v h = parts-fit 11 v (omega arith) (omega (arith, h))
-
--- A field's value is below 10 ^ width
-
-digits-bound : (l : List ℕ) (v : ℕ) → allDigits l ≡ true → decimal v l < (v + 1) * 10 ^ length l
-digits-bound [] v e = omega (arith, pow-zero 10)
-digits-bound (b ∷ l) v e = go (leb 48 b) (leb b 57) refl refl e (digits-bound l (v * 10 + (b - 48)))
-  where
-    go : (x y : Bool) → leb 48 b ≡ x → leb b 57 ≡ y → ((x && y) && allDigits l) ≡ true
-        → (allDigits l ≡ true → decimal (v * 10 + (b - 48)) l < (v * 10 + (b - 48) + 1) * 10 ^ length l) → decimal (v * 10 + (b - 48)) l < (v + 1) * 10 ^ suc (length l)
-    go true true f g e rec =
-        let r = rec e in
-        let h : v * 10 + (b - 48) + 1 ≤ (v + 1) * 10 = omega (arith, leb-true b 57 g) in
-        lt-of-lt-of-le r (subst (λ (x : ℕ). (v * 10 + (b - 48) + 1) * 10 ^ length l ≤ x) (mul-assoc (v + 1) 10 (10 ^ length l) ∙ ap (λ (x : ℕ). (v + 1) * x) (tens (length l))) (mul-le-mul-right (10 ^ length l) h))
-      where
-        tens : (n : ℕ) → 10 * 10 ^ n ≡ 10 ^ suc n
-        tens n = omega (arith, pow-suc 10 n)
-    go true false f g e rec = let z : _≡_ {A = ℕ} 0 1 = cc in absurd (omega arith)
-    go false y f g e rec = let z : _≡_ {A = ℕ} 0 1 = cc in absurd (omega arith)
-
-spaces-short : (l : List ℕ) → length (afterSpaces l) ≤ length l
-spaces-short [] = omega arith
-spaces-short (b ∷ l) = go (eqb b 32) (spaces-short l)
-  where
-    go : (x : Bool) → length (afterSpaces l) ≤ length l → length (cond x (afterSpaces l) (b ∷ l)) ≤ suc (length l)
-    go true h = omega arith
-    go false h = omega arith
-
-abbrev Bounded : ℕ → Field → Type 0
-Bounded w (Value v) = (v < 10 ^ w) × (v ≤ 4294967295)
-Bounded w Bad = Unit {0}
-
-bounded-if : (w : ℕ) (b : Bool) (f : Field) → (b ≡ true → Bounded w f) → Bounded w (cond b f Bad)
-bounded-if w true f h = h refl
-bounded-if w false f h = tt
-
-two-true : (x y : Bool) → (x && y) ≡ true → (x ≡ true) × (y ≡ true)
-two-true true y e = (refl, e)
-two-true false y e = let z : _≡_ {A = ℕ} 0 1 = cc in absurd (omega arith)
-
-bounded : (s : List ℕ) (w : ℕ) → Bounded w (fieldAt s w)
-unfolding fieldAt numeral scan
-bounded s w =
-    let t = afterSpaces (take w s) in
-    bounded-if w (leb w (length s)) _ (λ a.
-    bounded-if w (wellLed t) _ (λ b.
-    bounded-if w (allDigits t && leb (decimal 0 t) 4294967295) _ (λ c.
-    let e = two-true (allDigits t) (leb (decimal 0 t) 4294967295) c in
-    (fit s w (leb-true w (length s) a) (e .0), leb-true (decimal 0 t) 4294967295 (e .1)))))
-  where
-    fit : (s : List ℕ) (w : ℕ) → w ≤ length s → allDigits (afterSpaces (take w s)) ≡ true → decimal 0 (afterSpaces (take w s)) < 10 ^ w
-    fit s w h e =
-        let t = afterSpaces (take w s) in
-        let n : length t ≤ w = omega (arith, spaces-short (take w s), length-take-le w s h) in
-        let one : (0 + 1) * 10 ^ length t ≡ 10 ^ length t = omega arith in
-        lt-of-lt-of-le (subst (λ (x : ℕ). decimal 0 t < x) one (digits-bound t 0 e)) (pow-le-pow-right {n = 10} (lit< tt) {i = length t} {j = w} n)
-
--- A line that is read fits
-abbrev FitsP : Parsed → Type 0
-FitsP (Parsed·row l) = Fits l
-FitsP Malformed = Unit {0}
-
-fits-on : (w : ℕ) (f : Field) (g : ℕ → Parsed) → Bounded w f → ((v : ℕ) → v < 10 ^ w → v ≤ 4294967295 → FitsP (g v)) → FitsP (onField f g)
-fits-on w (Value v) g m h = h v (m .0) (m .1)
-fits-on w Bad g m h = tt
-
-fits-line : (t : List ℕ) → FitsP (lineOf t)
-unfolding lineOf
-fits-line t =
-    fits-on 3 (fieldAt t 3) _ (bounded t 3) (λ s hs _.
-    fits-on 3 (fieldAt (drop 3 t) 3) _ (bounded (drop 3 t) 3) (λ kind hk _.
-    fits-on 3 (fieldAt (drop 6 t) 3) _ (bounded (drop 6 t) 3) (λ p hp _.
-    fits-on 3 (fieldAt (drop 9 t) 3) _ (bounded (drop 9 t) 3) (λ q hq _.
-    fits-on 11 (fieldAt (drop 12 t) 11) _ (bounded (drop 12 t) 11) (λ a _ ha.
-    fits-on 11 (fieldAt (drop 23 t) 11) _ (bounded (drop 23 t) 11) (λ b _ hb.
-    fin (eqb (getD t 34 0) 10) s kind p q a b (record { section = omega (arith, hs); kind = omega (arith, hk); p = omega (arith, hp); q = omega (arith, hq); a = ha; b = hb })))))))
-  where
-    fin : (x : Bool) (s kind p q a b : ℕ) → Fits (six s kind p q a b) → FitsP (cond x (Parsed·row (six s kind p q a b)) Malformed)
-    fin true s kind p q a b h = h
-    fin false s kind p q a b h = tt
-
-abbrev FitsT : Taken → Type 0
-FitsT t = All Fits (t .lines)
-
-fits-if : (b : Bool) (x y : Taken) → FitsT x → FitsT y → FitsT (cond b x y)
-fits-if true x y f g = f
-fits-if false x y f g = g
-
-fits-lines : (p : Parsed) (x : Taken) (g : Line → Taken) → FitsP p → FitsT x → ((l : Line) → Fits l → FitsT (g l)) → FitsT (onLine p x g)
-fits-lines (Parsed·row l) x g s h f = f l s
-fits-lines Malformed x g s h f = h
-
-fits-rows : (k : ℕ) (s : List ℕ) (left i : ℕ) (at : Stand) → FitsT (rowsFrom k s i left at)
-unfolding rowsFrom
-fits-rows k s zero i at = tt
-fits-rows k s (suc left) i at =
-    fits-lines (lineOf (rowBytes s i)) _ _ (fits-line (rowBytes s i)) tt (λ l F.
-    fits-if (eqb (refusal k at l) 0) _ _ (F, fits-rows k s left (suc i) (after at l)) tt)
-
-pub taken-fits : (s : List ℕ) → All Fits (taken s .lines)
-unfolding taken
-taken-fits s = fits-if (eqb (headOf s .refusal) 0) _ _ (fits-rows (headOf s .k) s (headOf s .rows) 0 begin) tt
 
 -- The own rows of denials fit
 
@@ -277,7 +168,7 @@ module _ (s : List ℕ) (e : answer s .refusal ≡ 0) (m₀ : List ℕ) (room : 
   all-plain : (i : ℕ) → i < answer s .rows → Plain (lineIn (lay 0 (taken s .lines) m₀) i)
   all-plain i h =
       at-line Plain (lay 0 (taken s .lines) m₀) (answer s .rows) 0
-      (subst (All Plain) (sym (lines-are s e m₀ room)) (plain-lines (taken s .lines) (taken-fits s) (all-fair s e m₀ room) (all-six s e m₀ room))) i (omega arith) (omega arith)
+      (subst (All Plain) (sym (lines-are s e m₀ room)) (plain-lines (taken s .lines) (accepted-rows s e .columns) (all-fair s e m₀ room) (all-six s e m₀ room))) i (omega arith) (omega arith)
 
   pub written-fits : (m : ℕ) → All Fits (writtenLines s m)
   unfolding writtenLines
