@@ -12,6 +12,7 @@ use Rattle.columns.proofs.Spelling.{spell-length}
 use Rattle.sheet.specs.declared.Line.{Line}
 use Rattle.sheet.specs.Memory.{lineIn, linesIn}
 use Rattle.sheet.specs.Text.{rowText, rowsText, headText, sheetText}
+use Rattle.sheet.proofs.Texts.{row-text-length, rows-text-length, head-text-length}
 use Rattle.antiscenario.specs.Write.{inked}
 
 -- one text after another
@@ -53,25 +54,6 @@ byte-inked (x ∷ m) (suc at) c h =
     let e : suc at + 1 ≡ suc (at + 1) = omega arith in rw e (ap (λ (l : List ℕ). x ∷ l) (byte-inked m at c (omega arith)))
 
 -- The row's line
-pub row-length : (l : Line) → length (rowText l) ≡ 35
-unfolding rowText
-row-length l =
-    omega (
-      arith,
-      length-append (spell 3 (l .section)) (spell 3 (l .kind) ++ (spell 3 (l .p) ++ (spell 3 (l .q) ++ (spell 11 (l .a) ++ (spell 11 (l .b) ++ (10 ∷ [])))))),
-      length-append (spell 3 (l .kind)) (spell 3 (l .p) ++ (spell 3 (l .q) ++ (spell 11 (l .a) ++ (spell 11 (l .b) ++ (10 ∷ []))))),
-      length-append (spell 3 (l .p)) (spell 3 (l .q) ++ (spell 11 (l .a) ++ (spell 11 (l .b) ++ (10 ∷ [])))),
-      length-append (spell 3 (l .q)) (spell 11 (l .a) ++ (spell 11 (l .b) ++ (10 ∷ []))),
-      length-append (spell 11 (l .a)) (spell 11 (l .b) ++ (10 ∷ [])),
-      length-append (spell 11 (l .b)) (10 ∷ []),
-      spell-length 3 (l .section),
-      spell-length 3 (l .kind),
-      spell-length 3 (l .p),
-      spell-length 3 (l .q),
-      spell-length 11 (l .a),
-      spell-length 11 (l .b),
-    )
-
 pub row-inked : (l : Line) (at : ℕ) (b0 b1 b2 b3 b4 b5 b6 b7 : List ℕ) → at + 35 ≤ length b0
     → length b1 ≡ length b0 → length b2 ≡ length b0 → length b3 ≡ length b0 → length b4 ≡ length b0 → length b5 ≡ length b0 → length b6 ≡ length b0
     → b1 ≡ take at b0 ++ (spell 3 (l .section) ++ drop (at + 3) b0)
@@ -98,10 +80,6 @@ head-inked k n b0 b1 b2 b3 h l1 l2 e1 e2 e3 =
     after 0 3 3 _ _ b0 b1 b3 (spell-length 3 k) refl (omega arith) (e1 ∙ number-inked 0 3 k b0)
     (after 3 3 6 _ _ b1 b2 b3 (spell-length 3 n) refl (omega arith) (e2 ∙ number-inked 3 3 n b1) (e3 ∙ byte-inked b2 6 10 (omega arith)))
 
-pub head-length : (k n : ℕ) → length (headText k n) ≡ 7
-unfolding headText
-head-length k n = omega (arith, length-append (spell 3 k) (spell 3 n ++ (10 ∷ [])), length-append (spell 3 n) (10 ∷ []), spell-length 3 k, spell-length 3 n)
-
 -- rows one after another
 module _ (m : List ℕ) (i n : ℕ) where
   pub rows-on : (b c : List ℕ) → i < n → 7 + 35 * i ≤ length b → c ≡ inked (7 + 35 * i) (rowText (lineIn m i)) b
@@ -109,7 +87,7 @@ module _ (m : List ℕ) (i n : ℕ) where
   unfolding rowsText linesIn
   rows-on b c h r e =
       let k : n - i ≡ suc (n - (i + 1)) = omega arith in
-      rw (k, add-one i) (after (7 + 35 * i) 35 (7 + 35 * suc i) (rowText (lineIn m i)) (rowsText (linesIn m (suc i) (n - suc i))) b c _ (row-length (lineIn m i)) (omega arith) r e refl)
+      rw (k, add-one i) (after (7 + 35 * i) 35 (7 + 35 * suc i) (rowText (lineIn m i)) (rowsText (linesIn m (suc i) (n - suc i))) b c _ (row-text-length (lineIn m i)) (omega arith) r e refl)
 
   pub rows-end : (b : List ℕ) → n ≤ i → b ≡ inked (7 + 35 * i) (rowsText (linesIn m i (n - i))) b
   unfolding rowsText linesIn inked
@@ -123,22 +101,13 @@ unfolding linesIn
 lines-length m zero i = refl
 lines-length m (suc left) i = ap suc (lines-length m left (suc i))
 
-pub rows-length : (ls : List Line) → length (rowsText ls) ≡ 35 * length ls
-unfolding rowsText
-rows-length [] = refl
-rows-length (l ∷ ls) = omega (arith, length-append (rowText l) (rowsText ls), row-length l, rows-length ls)
-
-pub sheet-length : (k : ℕ) (ls : List Line) → length (sheetText k ls) ≡ 7 + 35 * length ls
-unfolding sheetText
-sheet-length k ls = omega (arith, length-append (headText k (length ls)) (rowsText ls), head-length k (length ls), rows-length ls)
-
 pub text-inked : (k : ℕ) (m : List ℕ) (n : ℕ) (b c d : List ℕ) → c ≡ inked 0 (headText k n) b → d ≡ inked 7 (rowsText (linesIn m 0 n)) c
     → d ≡ sheetText k (linesIn m 0 n) ++ drop (7 + 35 * n) b
 unfolding sheetText inked
 text-inked k m n b c d e f =
     let ls = linesIn m 0 n in
     let l : length ls ≡ n = lines-length m n 0 in
-    let t : length (headText k n ++ rowsText ls) ≡ 7 + 35 * n = omega (arith, length-append (headText k n) (rowsText ls), head-length k n, rows-length ls, l) in
+    let t : length (headText k n ++ rowsText ls) ≡ 7 + 35 * n = omega (arith, length-append (headText k n) (rowsText ls), head-text-length k n, rows-text-length ls, l) in
     let z : 0 + (7 + 35 * n) ≡ 7 + 35 * n = omega arith in
-    after 0 7 7 (headText k n) (rowsText ls) b c d (head-length k n) refl (omega arith) e f
+    after 0 7 7 (headText k n) (rowsText ls) b c d (head-text-length k n) refl (omega arith) e f
     ∙ ap (λ (j : ℕ). (headText k n ++ rowsText ls) ++ drop j b) (ap (λ (j : ℕ). 0 + j) t ∙ z) ∙ rw l

@@ -20,7 +20,7 @@ use Rattle.antiscenario.specs.Write.{noText, writtenLines, writtenText, 
 use Rattle.antiscenario.proofs.Accept.{lines-are, built-written}
 use Rattle.antiscenario.proofs.Laws.{lay-length}
 use Rattle.antiscenario.proofs.Bound.{built-few}
-use Rattle.antiscenario.proofs.Ink.{sheet-length}
+use Rattle.sheet.proofs.Texts.{sheet-text-length}
 use Rattle.antiscenario.proofs.Fitting.{written-fits}
 
 -- An accepted sheet, and the rows built from its memory
@@ -71,7 +71,7 @@ module _ (s : List ℕ) (m : ℕ) (r : Answer) (e : r ≡ answer s) (z : r .refu
 
       pub size-is : 7 + 35 * n ≡ length (writtenText s m)
       unfolding writtenText
-      size-is = sym (sheet-length (answer s .k) (writtenLines s m) ∙ ap (λ (x : ℕ). 7 + 35 * x) (sym n-is))
+      size-is = sym (sheet-text-length (answer s .k) (writtenLines s m) ∙ ap (λ (x : ℕ). 7 + 35 * x) (sym n-is))
 
       module _ (buf : List ℕ) (lo : 1 ≤ m) (hi : m ≤ r .count) where
         hi' : m ≤ answer s .count

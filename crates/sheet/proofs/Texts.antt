@@ -3,7 +3,7 @@
 use mathlib.Core.Path.{_≡_, refl, sym, ap, ap₂, _∙_}
 use mathlib.Core.Bool.{Bool, true, false, cond}
 use mathlib.Core.List.{List, [], _∷_, _++_, append-assoc}
-use Prim.Native.Nat.{ℕ, zero, suc, _+_, _*_, _-_}
+use Prim.Native.Nat.{ℕ, zero, suc, _+_, _*_, _-_, _≤_}
 use native.Mathlib.Omega.{arith}
 use lib.ListN.{length, take, drop, getD, take-append-drop, drop-of-length-le, length-append}
 use lib.Seq.{drop-append-seam, take-append-seam, drop-drop, drop-cons, getD-drop}
@@ -190,14 +190,12 @@ row-only t l n e =
 
 -- The whole text
 
-head-only : (s : List ℕ) → Good s (headOf s) → s ≡ headText (headOf s .k) (headOf s .rows) ++ drop 7 s
+pub head-only : (s : List ℕ) (k n : ℕ) → fieldAt s 3 ≡ Value k → fieldAt (drop 3 s) 3 ≡ Value n → getD s 6 0 ≡ 10 → 7 ≤ length s → s ≡ headText k n ++ drop 7 s
 unfolding headText
-head-only s G =
-    let k = headOf s .k in
-    let n = headOf s .rows in
-    let c : drop 6 s ≡ 10 ∷ drop 7 s = drop-cons s 6 0 (omega (arith, G .length)) ∙ ap (λ (b : ℕ). b ∷ drop 7 s) (G .end) in
-    peel 3 k s (G .first)
-    ∙ ap (λ (x : List ℕ). spell 3 k ++ x) (peel 3 n (drop 3 s) (G .second) ∙ ap (λ (x : List ℕ). spell 3 n ++ x) (drop-drop 3 3 s ∙ c))
+head-only s k n first second end h =
+    let c : drop 6 s ≡ 10 ∷ drop 7 s = drop-cons s 6 0 (omega arith) ∙ ap (λ (b : ℕ). b ∷ drop 7 s) end in
+    peel 3 k s first
+    ∙ ap (λ (x : List ℕ). spell 3 k ++ x) (peel 3 n (drop 3 s) second ∙ ap (λ (x : List ℕ). spell 3 n ++ x) (drop-drop 3 3 s ∙ c))
     ∙ ap (λ (x : List ℕ). spell 3 k ++ x) (sym (append-assoc (spell 3 n) (10 ∷ []) (drop 7 s)))
     ∙ sym (append-assoc (spell 3 k) (spell 3 n ++ (10 ∷ [])) (drop 7 s))
 
@@ -235,6 +233,6 @@ pub text-only : (s : List ℕ) → Good s (headOf s) → (at : Stand) → rowsFr
     → s ≡ sheetText (headOf s .k) (rowsFrom (headOf s .k) s 0 (headOf s .rows) at .lines)
 unfolding sheetText
 text-only s G at z n =
-    head-only s G
+    head-only s (headOf s .k) (headOf s .rows) (G .first) (G .second) (G .end) (omega (arith, G .length))
     ∙ ap₂ (λ (m : ℕ) (x : List ℕ). headText (headOf s .k) m ++ x) (sym n)
     (rows-only (headOf s .k) s (headOf s .rows) 0 at (omega (arith, G .length)) z)
