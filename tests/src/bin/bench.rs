@@ -9,9 +9,9 @@ use std::cell::RefCell;
 use std::hint::black_box;
 
 const SIZES: [u32; 4] = [500, 1000, 2000, 4000];
-const REPEATS: usize = 7;
+const REPEATS: usize = 15;
 /// A repeat goes on until it has taken this long, so that short work is measured many times over.
-const REPEAT: f64 = 0.01;
+const REPEAT: f64 = 0.005;
 /// Work longer than this is measured once.
 const LONG: f64 = 0.5;
 const THREAD_TIME: i32 = 3;
@@ -46,12 +46,18 @@ fn median(mut times: Vec<f64>) -> f64 {
     times[times.len() / 2]
 }
 
-/// The median seconds of a run of each, measured in turn.
-fn both(mut ours: impl FnMut(), mut plain: impl FnMut()) -> (f64, f64) {
+/// The median seconds of a run of each, and the median of the ratios of neighbours, which a change of the machine's clock leaves alone.
+struct Both {
+    ours: f64,
+    plain: f64,
+    ratio: f64,
+}
+
+/// Measured in turn.
+fn both(mut ours: impl FnMut(), mut plain: impl FnMut()) -> Both {
     let once = (seconds_of(1, &mut ours), seconds_of(1, &mut plain));
-    let longest = once.0.max(once.1);
-    if longest > LONG {
-        return once;
+    if once.0.max(once.1) > LONG {
+        return Both { ours: once.0, plain: once.1, ratio: once.0 / once.1 };
     }
     let runs = |once: f64| (REPEAT / once.max(1e-9)).ceil().clamp(1.0, 1e6) as u32;
     let (mut our_times, mut plain_times) = (Vec::new(), Vec::new());
@@ -59,7 +65,8 @@ fn both(mut ours: impl FnMut(), mut plain: impl FnMut()) -> (f64, f64) {
         our_times.push(seconds_of(runs(once.0), &mut ours));
         plain_times.push(seconds_of(runs(once.1), &mut plain));
     }
-    (median(our_times), median(plain_times))
+    let ratios = our_times.iter().zip(&plain_times).map(|(ours, plain)| ours / plain).collect();
+    Both { ours: median(our_times), plain: median(plain_times), ratio: median(ratios) }
 }
 
 /// Keeps the compiler from leaving out work whose result is not used.
@@ -81,12 +88,13 @@ impl Table {
         Table { before: None }
     }
 
-    fn line(&mut self, name: &str, size: u32, ours: f64, plain: f64) {
+    fn line(&mut self, name: &str, size: u32, measured: Both) {
+        let Both { ours, plain, ratio } = measured;
         let growth = match self.before {
             Some((ours_before, plain_before)) => format!("{:.1} / {:.1}", ours / ours_before, plain / plain_before),
             None => String::new(),
         };
-        println!("{name:<34} {size:>6} {:>12} {:>12} {:>7.2} {growth:>14}", spelled(ours), spelled(plain), ours / plain);
+        println!("{name:<34} {size:>6} {:>12} {:>12} {ratio:>7.2} {growth:>14}", spelled(ours), spelled(plain));
         self.before = Some((ours, plain));
     }
 }
@@ -131,17 +139,17 @@ fn read_logs() {
     let mut table = Table::new();
     for n in SIZES {
         let log = mixed(n).text();
-        let (ours, plain) = both(|| keep(Host.read_log(black_box(&log))), || keep(plain::read_log(black_box(&log))));
+        let measured = both(|| keep(Host.read_log(black_box(&log))), || keep(plain::read_log(black_box(&log))));
         let rate = |seconds: f64| log.len() as f64 / seconds / 1e6;
-        table.line(&format!("read a log ({:.0} / {:.0} MB/s)", rate(ours), rate(plain)), n, ours, plain);
+        table.line(&format!("read a log ({:.0} / {:.0} MB/s)", rate(measured.ours), rate(measured.plain)), n, measured);
     }
 }
 
 fn read_sheets() {
     for (name, sheet) in [("S", sheet_s()), ("19 rows", many_antiscenarios())] {
-        let (ours, plain) = both(|| keep(Host.read_sheet(black_box(&sheet))), || keep(plain::read_sheet(black_box(&sheet))));
+        let measured = both(|| keep(Host.read_sheet(black_box(&sheet))), || keep(plain::read_sheet(black_box(&sheet))));
         let rate = |seconds: f64| sheet.len() as f64 / seconds / 1e6;
-        Table::new().line(&format!("read {name} ({:.0} / {:.0} MB/s)", rate(ours), rate(plain)), 0, ours, plain);
+        Table::new().line(&format!("read {name} ({:.0} / {:.0} MB/s)", rate(measured.ours), rate(measured.plain)), 0, measured);
     }
 }
 
@@ -150,8 +158,7 @@ fn write_all() {
     let buffer = RefCell::new([0; 3437]);
     let write_ours = || (1..=4096).for_each(|number| keep(Host.write_into(&sheet, number, &mut *buffer.borrow_mut())));
     let write_plain = || (1..=4096).for_each(|number| keep(plain::write(&sheet, number, &mut *buffer.borrow_mut())));
-    let (ours, plain) = both(write_ours, write_plain);
-    Table::new().line("write all of N = 4,096", 0, ours, plain);
+    Table::new().line("write all of N = 4,096", 0, both(write_ours, write_plain));
 }
 
 /// The search of these numbers, one after another, on logs of each size.
@@ -165,8 +172,7 @@ fn search(name: &str, sheet: &[u8], numbers: &[u64], log: fn(u32) -> Vec<u8>) {
         assert_eq!(search_ours(numbers[0]), (0, search_plain(numbers[0]).expect("accepted").is_some()));
         let all_ours = || numbers.iter().for_each(|&number| keep(search_ours(number)));
         let all_plain = || numbers.iter().for_each(|&number| keep(search_plain(number)));
-        let (ours, plain) = both(all_ours, all_plain);
-        table.line(name, n, ours, plain);
+        table.line(name, n, both(all_ours, all_plain));
     }
 }
 
@@ -177,8 +183,7 @@ fn check(name: &str, sheet: &[u8], log: fn(u32) -> Vec<u8>) {
         assert_eq!(Host.check_number(sheet, &log), plain::Plain.check_number(sheet, &log));
         let check_ours = || keep(Host.check_number(sheet, black_box(&log)));
         let check_plain = || keep(plain::check(sheet, black_box(&log)));
-        let (ours, plain) = both(check_ours, check_plain);
-        table.line(name, n, ours, plain);
+        table.line(name, n, both(check_ours, check_plain));
     }
 }
 
