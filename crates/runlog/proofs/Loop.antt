@@ -7,6 +7,7 @@ use native.Mathlib.Nat.{sub-zero}
 use native.Mathlib.Numerals.{add-one}
 use native.Mathlib.Omega.{arith}
 use lib.ListN.{length, take, drop, set, length-take, length-drop}
+use lib.Seq.{drop-drop, take-all}
 use Rattle.runlog.specs.declared.LineRead.the-variants.{Refused, Line}
 use Rattle.runlog.specs.Log.{lineOf, Taken, stop, more, onLine, lineBytes, linesFrom, lay}
 
@@ -71,9 +72,22 @@ module _ (s : List ℕ) (n start : ℕ) (ticks₀ events₀ : List ℕ) where
     left-none h = let e : n - i ≡ 0 = omega arith in left-stop 0 0 (rw e)
 
 -- the part that is read as a line
-pub part-line : (s : List ℕ) (i : ℕ) → take (28 + 15 * i + 15 - (28 + 15 * i)) (drop (28 + 15 * i) s) ≡ lineBytes s i
+-- what is left of the text at line i
+abbrev pub From : (s : List ℕ) (i : ℕ) → List ℕ → Type 0
+From s i rest = rest ≡ drop (28 + 15 * i) s
+
+pub part-line : (s : List ℕ) (i : ℕ) (rest : List ℕ) → From s i rest → take 15 rest ≡ lineBytes s i
 unfolding lineBytes
-part-line s i = let e : 28 + 15 * i + 15 - (28 + 15 * i) ≡ 15 = omega arith in rw e
+part-line s i rest e = ap (take 15) e
+
+pub from-first : (s : List ℕ) → From s 0 (take (length s - 28) (drop 28 s))
+from-first s = take-all (length s - 28) (drop 28 s) (omega (arith, length-drop 28 s))
+
+pub from-next : (s : List ℕ) (i : ℕ) (rest : List ℕ) → From s i rest → From s (i + 1) (take (length rest - 15) (drop 15 rest))
+from-next s i rest e = let k : 28 + 15 * i + 15 ≡ 28 + 15 * (i + 1) = omega arith in take-all (length rest - 15) (drop 15 rest) (omega (arith, length-drop 15 rest)) ∙ ap (drop 15) e ∙ drop-drop 15 (28 + 15 * i) s ∙ ap (λ (j : ℕ). drop j s) k
+
+pub from-length : (s : List ℕ) (i n : ℕ) (rest : List ℕ) → From s i rest → i < n → 28 + 15 * n ≤ length s → 15 ≤ length rest
+from-length s i n rest e h l = omega (arith, ap length e, length-drop (28 + 15 * i) s)
 
 pub line-length : (s : List ℕ) (i n : ℕ) → i < n → 28 + 15 * n ≤ length s → length (lineBytes s i) ≡ 15
 unfolding lineBytes

@@ -176,16 +176,14 @@ fn read_lines(log: &[u8], n: usize, start: u32, ticks: &mut [u32], events: &mut 
     ensures events { λ _. ⌜ now (events .exit) ≡ lay 0 (linesFrom (now (log .entry)) 0 n start .events) (now (events .entry)) ⌝ }
 {
     let mut last = start;
+    let mut rest = &log[FIRST_BYTES..];
     let mut i: usize = 0;
-    let mut number: u32 = 0;
     while i < n {
-        number += 1;
-        let from = FIRST_BYTES + LINE_BYTES * i;
-        match check_line(&log[from..from + LINE_BYTES], last) {
+        match check_line(&rest[..LINE_BYTES], last) {
             LineRead::Refused(refusal) => {
                 return Fault {
                     refusal,
-                    line: number,
+                    line: i as u32 + 1,
                     last,
                 };
             }
@@ -195,6 +193,7 @@ fn read_lines(log: &[u8], n: usize, start: u32, ticks: &mut [u32], events: &mut 
                 last = tick;
             }
         }
+        rest = &rest[LINE_BYTES..];
         i += 1;
     }
     Fault {
