@@ -18,6 +18,9 @@ const POINT_NUMBERS: usize = 100;
 
 const CLOSE: usize = 99;
 
+// Room for 200 rows, more than an antiscenario has, six numbers to a row.
+pub const ROWS_ROOM: usize = 1200;
+
 // A row's five numbers.
 pub struct Row {
     pub kind: u32,
@@ -55,28 +58,12 @@ pub fn wide(x: u32) -> u64
     x as u64
 }
 
-// Row j of rows of which the slice may have a part; the rest is 0.
-fn row_of_part(rows: &[u32], j: u32) -> Row
-    requires { ⌜ j < 1000 ⌝ }
-    ensures { λ r. ⌜ decode (r .kind) (r .p) (r .q) (r .a) (r .b) ≡ rowAt (now (rows .entry)) j ⌝ }
-{
-    let kind = at(rows, 6 * j + 1);
-    let p = at(rows, 6 * j + 2);
-    let q = at(rows, 6 * j + 3);
-    let a = wide(at(rows, 6 * j + 4));
-    let b = wide(at(rows, 6 * j + 5));
-    Row { kind, p, q, a, b }
-}
-
-// Row j of rows that stand in a slice, six numbers to a row.
-pub fn row_at(rows: &[u32], j: u32) -> Row
-    requires { ⌜ j < 1000 ⌝ }
+// Row j of rows in memory, six numbers to a row.
+pub fn row_at(rows: &[u32; ROWS_ROOM], j: u32) -> Row
+    requires { ⌜ j < 200 ⌝ }
     ensures { λ r. ⌜ decode (r .kind) (r .p) (r .q) (r .a) (r .b) ≡ rowAt (now (rows .entry)) j ⌝ }
 {
     let i = 6 * j as usize;
-    if rows.len() < i + 6 {
-        return row_of_part(rows, j);
-    }
     let a = wide(rows[i + 4]);
     let b = wide(rows[i + 5]);
     Row {
@@ -239,7 +226,14 @@ fn all_lines(positions: &[u32], np: u32, n: u32) -> bool
 }
 
 // Whether all rows are met where their points have the positions that env gives.
-fn all_met(ticks: &[u32], events: &[u32], n: u32, env: &[u32], rows: &[u32], count: u32) -> bool
+fn all_met(
+    ticks: &[u32],
+    events: &[u32],
+    n: u32,
+    env: &[u32],
+    rows: &[u32; ROWS_ROOM],
+    count: u32,
+) -> bool
     requires { ⌜ Held (now ticks) (now events) n × (count ≤ 200) ⌝ }
     ensures { λ r. ⌜ r ≡ all (meetsOf (runAt (now (ticks .entry)) (now (events .entry)) n) (by (now (env .entry)))) (rowsOf (now (rows .entry)) count) ⌝ }
 {
@@ -258,7 +252,7 @@ pub fn is_matching(
     ticks: &[u32],
     events: &[u32],
     n: u32,
-    rows: &[u32],
+    rows: &[u32; ROWS_ROOM],
     count: u32,
     pts: &[u32],
     np: u32,

@@ -67,6 +67,5 @@ judge-spec =
     (λ c. search needs)
     (λ c. search needs)
     (λ c. search needs)
-    (λ c. search needs)
     is-matching-requires
     returns-3)

@@ -17,7 +17,7 @@ use Rattle.search.proofs.find.Tie as tie
 returns : tie.Need-returns
 returns c =
     let r = c .before in
-    let s = r .before .before .before .before .before .before .before .before .before .before .before .before .before .before .before .before in
+    let s = r .before .before .before .before .before .before .before .before .before .before .before .before .before .before .before in
     let a = s .args in
     let p = r .before .before .before .before .before .before .before .before .before .prepare in
     let e = find-none (a .ticks .now) (a .events .now) (a .n) (s .pre .0) (a .rows .now) (a .count) (s .pre .2) (p .last .1 .1 .0) (p .last .1 .1 .1 .0) (p .result) (p .ensures .0) (p .ensures .1 .0) (p .ensures .1 .1 .0) (sym (r .grounded .ensures) ∙ not-true _ (c .if1 .taken)) in
@@ -26,7 +26,7 @@ returns c =
 place-requires : tie.Need-place-requires
 place-requires c κs =
     let r = c .before .before .before .before .before .before in
-    let s = r .before .before .before .before .before .before .before .before .before .before .before .before .before .before .before .before in
+    let s = r .before .before .before .before .before .before .before .before .before .before .before .before .before .before .before in
     let a = s .args in
     let p = r .before .before .before .before .before .before .before .before .before .prepare in
     (s .pre .0, p .ensures .1 .1 .1, roomy (a .ticks .now) (a .events .now) (a .n) (s .pre .0) (a .rows .now) (a .count) (s .pre .2) (p .last .1 .1 .0) (p .last .1 .1 .1 .0) (p .result) (p .ensures .0) (p .ensures .1 .0) (p .ensures .1 .1 .0) (p .kept .1 .1 .0) (s .pre .1))
@@ -34,7 +34,7 @@ place-requires c κs =
 returns-2 : tie.Need-returns-2
 returns-2 c =
     let r = c .before .before .before .before .before .before .before .before in
-    let s = r .before .before .before .before .before .before .before .before .before .before .before .before .before .before .before .before in
+    let s = r .before .before .before .before .before .before .before .before .before .before .before .before .before .before .before in
     let a = s .args in
     let p = r .before .before .before .before .before .before .before .before .before .prepare in
     let h = find-is (a .ticks .now) (a .events .now) (a .n) (s .pre .0) (a .rows .now) (a .count) (s .pre .2) (p .last .1 .1 .0) (p .last .1 .1 .1 .0) (p .result) (p .ensures .0) (p .ensures .1 .0) (p .ensures .1 .1 .0) (sym (r .grounded .ensures) ∙ not-false _ (c .before .before .before .before .before .before .before .if1 .left)) in
@@ -44,7 +44,7 @@ returns-2 c =
 copy-out-requires : tie.Need-copy-out-requires
 copy-out-requires c κs =
     let r = c .before .before .before .before .before .before .before .before .before .before .before in
-    let s = r .before .before .before .before .before .before .before .before .before .before .before .before .before .before .before .before in
+    let s = r .before .before .before .before .before .before .before .before .before .before .before .before .before .before .before in
     let a = s .args in
     let p = r .before .before .before .before .before .before .before .before .before .prepare in
     (omega (arith, p .ensures .0, s .pre .2 .few), omega (arith, p .ensures .0, s .pre .2 .few, p .kept .1 .1 .0), omega (arith, p .ensures .0, s .pre .3))
@@ -52,7 +52,7 @@ copy-out-requires c κs =
 returns-3 : tie.Need-returns-3
 returns-3 c =
     let r = c .before .before .before .before .before .before .before .before .before .before .before .before .before .before in
-    let s = r .before .before .before .before .before .before .before .before .before .before .before .before .before .before .before .before in
+    let s = r .before .before .before .before .before .before .before .before .before .before .before .before .before .before .before in
     let a = s .args in
     let p = r .before .before .before .before .before .before .before .before .before .prepare in
     let h = find-is (a .ticks .now) (a .events .now) (a .n) (s .pre .0) (a .rows .now) (a .count) (s .pre .2) (p .last .1 .1 .0) (p .last .1 .1 .1 .0) (p .result) (p .ensures .0) (p .ensures .1 .0) (p .ensures .1 .1 .0) (sym (r .grounded .ensures) ∙ not-false _ (c .before .before .before .before .before .before .before .before .before .before .before .before .before .if1 .left)) in
@@ -65,7 +65,7 @@ returns-3 c =
 
 grounded-requires : tie.Need-grounded-requires
 grounded-requires c κs =
-    let s = c .before .before .before .before .before .before .before .before .before .before .before .before .before .before .before in
+    let s = c .before .before .before .before .before .before .before .before .before .before .before .before .before .before in
     (s .pre .0, s .pre .1, c .before .before .before .before .before .before .before .before .prepare .ensures .1 .1 .1)
 
 pub find-spec : {M : Type 1} → statement M

@@ -40,18 +40,18 @@ abbrev μ-consequents : tie.MeasureT-consequents
 -- what the inner loop was broken with
 row-is : (c : tie.Joined1 Inv-rows μ-rows Inv-consequents μ-consequents) →
     let at = c .before .before .before in
-    let a = at .before .before .before .before .before .args in
+    let a = at .before .before .before .before .args in
     c .if1 .row ≡ faultIn (runAt (a .ticks .now) (a .events .now) (a .n)) (at .consequents .c + 1) (a .env .now) 0 (tagsOf (a .rows .now) (a .count))
 row-is c =
     let at = c .before .before .before in
-    let s = at .before .before .before .before .before in
+    let s = at .before .before .before .before in
     let a = s .args in
     let r = c .before .rows in
     let w = runAt (a .ticks .now) (a .events .now) (a .n) in
     ⊎-elim
     (λ v. v .2 ∙ sym (fault-end w (a .rows .now) (a .count) (at .consequents .c + 1) (r .env) (r .j) (v .0 .taken)) ∙ r .inv .2)
-    (λ v. let k = v .4 .result in v .10 ∙ sym (stuck w (a .rows .now) (a .count) (at .consequents .c + 1) (r .env) (r .j) (v .0 .left) (v .1 .result) (v .1 .ensures) (v .2 .left)
-    (decode (k .kind) (k .p) (k .q) (k .a) (k .b)) (v .4 .ensures) (v .5 .result) (v .5 .ensures .0) (not-true _ (v .8 .taken))) ∙ r .inv .2)
+    (λ v. let k = v .5 .result in v .11 ∙ sym (stuck w (a .rows .now) (a .count) (at .consequents .c + 1) (r .env) (r .j) (v .0 .left) (v .2 .result) (v .2 .ensures) (v .3 .left)
+    (decode (k .kind) (k .p) (k .q) (k .a) (k .b)) (v .5 .ensures) (v .6 .result) (v .6 .ensures .0) (not-true _ (v .9 .taken))) ∙ r .inv .2)
     (c .if1 .came)
     ∙ fault-same (a .rows .now) (a .count) (a .k) (s .pre .1) w (seen-laws (a .ticks .now) (a .events .now) (a .n) (s .pre .0)) (a .env .now) (at .consequents .env) (s .pre .2) (at .consequents .inv .2)
     (at .consequents .c) (c .before .before .consequents-test .taken)
@@ -59,11 +59,11 @@ row-is c =
 -- and the array that it left
 env-is : (c : tie.Joined1 Inv-rows μ-rows Inv-consequents μ-consequents) →
     let at = c .before .before .before in
-    let a = at .before .before .before .before .before .args in
+    let a = at .before .before .before .before .args in
     Kept (tagsOf (a .rows .now) (a .count)) (a .env .now) (c .if1 .env)
 env-is c =
     let at = c .before .before .before in
-    let s = at .before .before .before .before .before in
+    let s = at .before .before .before .before in
     let a = s .args in
     let r = c .before .rows in
     let ts = tagsOf (a .rows .now) (a .count) in
@@ -71,38 +71,38 @@ env-is c =
     (kept-on ts (at .consequents .env) (r .env) (c .if1 .env) (r .inv .1)
     (⊎-elim
     (λ v. subst (Kept ts (r .env)) (sym (v .1)) (kept-all ts (r .env)))
-    (λ v. let k = v .4 .result in row-keeps (runAt (a .ticks .now) (a .events .now) (a .n)) (a .rows .now) (a .count)
-    (r .env) (c .if1 .env) (r .j) (at .consequents .c) (v .1 .result) (v .0 .left) (v .1 .ensures) (v .2 .left) (decode (k .kind) (k .p) (k .q) (k .a) (k .b)) (v .4 .ensures)
-    (ap (λ (z : List ℕ). length z) (v .9) ∙ v .5 .kept .1 .1 .1 .0) (v .9 ∙ v .5 .ensures .1))
+    (λ v. let k = v .5 .result in row-keeps (runAt (a .ticks .now) (a .events .now) (a .n)) (a .rows .now) (a .count)
+    (r .env) (c .if1 .env) (r .j) (at .consequents .c) (v .2 .result) (v .0 .left) (v .2 .ensures) (v .3 .left) (decode (k .kind) (k .p) (k .q) (k .a) (k .b)) (v .5 .ensures)
+    (ap (λ (z : List ℕ). length z) (v .10) ∙ v .6 .kept .1 .1 .1 .0) (v .10 ∙ v .6 .ensures .1))
     (c .if1 .came)))
 
 consequents-holds : tie.Need-consequents-holds Inv-rows μ-rows Inv-consequents μ-consequents
-consequents-holds c = let a = c .before .before .before .before .args in (search needs, search needs, kept-all (tagsOf (a .rows .now) (a .count)) (a .env .now), rw sub-zero)
+consequents-holds c = let a = c .before .before .before .args in (search needs, search needs, kept-all (tagsOf (a .rows .now) (a .count)) (a .env .now), rw sub-zero)
 
 rows-holds : tie.Need-rows-holds Inv-rows μ-rows Inv-consequents μ-consequents
 unfolding tagsOf
-rows-holds c = let a = c .before .before .before .before .before .before .args in (search needs, kept-all (tagsOf (a .rows .now) (a .count)) (c .before .consequents .env), rw sub-zero)
+rows-holds c = let a = c .before .before .before .before .before .args in (search needs, kept-all (tagsOf (a .rows .now) (a .count)) (c .before .consequents .env), rw sub-zero)
 
 rows-again : tie.Need-rows-again Inv-rows μ-rows Inv-consequents μ-consequents
 rows-again c =
-    let l = c .before .before .before in
+    let l = c .before .before .before .before in
     let at = l .before .before in
-    let a = at .before .before .before .before .before .args in
+    let a = at .before .before .before .before .args in
     let r = l .rows in
-    (search needs, r .inv .1, sym (skip (runAt (a .ticks .now) (a .events .now) (a .n)) (a .rows .now) (a .count) (at .consequents .c + 1) (r .env) (r .j) (c .before .before .if1 .left) (c .before .at .result) (c .before .at .ensures) (c .if2 .taken)) ∙ r .inv .2)
+    (search needs, r .inv .1, sym (skip (runAt (a .ticks .now) (a .events .now) (a .n)) (a .rows .now) (a .count) (at .consequents .c + 1) (r .env) (r .j) (c .before .before .before .if1 .left) (c .before .at .result) (c .before .at .ensures) (c .if2 .taken)) ∙ r .inv .2)
 
 advance-requires : tie.Need-advance-requires Inv-rows μ-rows Inv-consequents μ-consequents
 advance-requires c κs = c .before .before .before .before .before .before .before .before .before .before .before .before .pre .0
 
 rows-again-2 : tie.Need-rows-again-2 Inv-rows μ-rows Inv-consequents μ-consequents
 rows-again-2 c =
-    let l = c .before .before .before .before .before .before .before .before .before in
+    let l = c .before .before .before .before .before .before .before .before .before .before in
     let at = l .before .before in
-    let s = at .before .before .before .before .before in
+    let s = at .before .before .before .before in
     let a = s .args in
     let r = l .rows in
     let w = runAt (a .ticks .now) (a .events .now) (a .n) in
-    let h = c .before .before .before .before .before .before .before .before .if1 .left in
+    let h = c .before .before .before .before .before .before .before .before .before .if1 .left in
     let t = c .before .before .before .before .before .before .before .at in
     let v = c .before .before .before .advance in
     let row = c .before .before .before .before .row-at in

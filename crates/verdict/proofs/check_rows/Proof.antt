@@ -19,7 +19,7 @@ all-antecedent c =
 
 prepare-requires : tie.Need-prepare-requires
 prepare-requires c κs =
-    let t = c .before .before .before .before .before in
+    let t = c .before .before .before .before in
     let s = t .before .before in
     let a = s .args in
     let e = all-antecedent t in
@@ -30,7 +30,7 @@ prepare-requires c κs =
 first-violation-requires : tie.Need-first-violation-requires
 first-violation-requires c κs =
     let p = c .before .before .before .before .before .before .before .before .prepare in
-    let t = c .before .before .before .before .before .before .before .before .before .before .before .before .before .before in
+    let t = c .before .before .before .before .before .before .before .before .before .before .before .before .before in
     let s = t .before .before in
     let a = s .args in (
       s .pre .0,

@@ -67,82 +67,82 @@ returns-2 c =
 
 slice-aggregate-at-fault : tie.Need-slice-aggregate-at-fault Inv-loop μ-loop
 slice-aggregate-at-fault c =
-    let l = c .before .before .before .before .before .before .before in
+    let l = c .before .before .before .before .before .before in
     let s = l .before .before .before .before in
     let a = s .args in
     let re = sym (l .before .before .grounded .ensures) ∙ not-false _ (l .before .if1 .left) in
-    let x = c .before .before .before .before .before .next in
+    let x = c .before .before .before .before .next in
     sym (loop-keeps (a .ticks .now) (a .events .now) (a .n) (s .pre .0) (a .rows .now) (a .count) (a .k) (s .pre .1) (a .antecedent) (a .pts .now) (a .np) (a .slots .now) (s .pre .2) re (l .loop .env) (l .loop .inv .0) (l .loop .inv .1) (x .result) (x .last .1 .1 .1 .1 .1 .1 .1 .1 .1 .0) (x .ensures .0) (x .ensures .1) .size)
 
 at-fault-requires : tie.Need-at-fault-requires Inv-loop μ-loop
 at-fault-requires c κs =
-    let l = c .before .before .before .before .before .before .before in
+    let l = c .before .before .before .before .before .before in
     let s = l .before .before .before .before in
     let a = s .args in
     let re = sym (l .before .before .grounded .ensures) ∙ not-false _ (l .before .if1 .left) in
-    let x = c .before .before .before .before .before .next in
+    let x = c .before .before .before .before .next in
     (s .pre .0, s .pre .1, loop-keeps (a .ticks .now) (a .events .now) (a .n) (s .pre .0) (a .rows .now) (a .count) (a .k) (s .pre .1) (a .antecedent) (a .pts .now) (a .np) (a .slots .now) (s .pre .2) re (l .loop .env) (l .loop .inv .0) (l .loop .inv .1) (x .result) (x .last .1 .1 .1 .1 .1 .1 .1 .1 .1 .0) (x .ensures .0) (x .ensures .1) .size)
 
 copy-out-requires : tie.Need-copy-out-requires Inv-loop μ-loop
-copy-out-requires c κs = let s = c .before .before .before .before .before .before .before .before .before .before .before .before .before .before .before .before in (omega (arith, s .pre .2 .number, s .pre .2 .pattern .few), s .pre .2 .roomy, omega (arith, s .pre .2 .number, ap (λ z. length (points z)) (s .pre .2 .antecedent-rows), s .pre .1 .read .few))
+copy-out-requires c κs = let s = c .before .before .before .before .before .before .before .before .before .before .before .before .before .before .before in (omega (arith, s .pre .2 .number, s .pre .2 .pattern .few), s .pre .2 .roomy, omega (arith, s .pre .2 .number, ap (λ z. length (points z)) (s .pre .2 .antecedent-rows), s .pre .1 .read .few))
 
 returns-3 : tie.Need-returns-3 Inv-loop μ-loop
 returns-3 c =
-    let l = c .before .before .before .before .before .before .before .before .before .before .before .before .before .before .before in
-    let s = l .before .before .before .before in
-    let a = s .args in
-    let re = sym (l .before .before .grounded .ensures) ∙ not-false _ (l .before .if1 .left) in
-    let x = c .before .before .before .before .before .before .before .before .before .before .before .before .before .next in
-    let f = c .before .before .before .before .before .before .before .at-fault in
-    loop-hit (a .ticks .now) (a .events .now) (a .n) (s .pre .0) (a .rows .now) (a .count) (a .k) (s .pre .1) (a .antecedent) (a .pts .now) (a .np) (a .slots .now) (s .pre .2) re (l .loop .env) (l .loop .inv .0) (l .loop .inv .1) (x .result) (x .last .1 .1 .1 .1 .1 .1 .1 .1 .1 .0) (x .ensures .0) (x .ensures .1) (not-false _ (c .before .before .before .before .before .before .before .before .before .before .before .before .if2 .left)) (f .result) (f .ensures .0) (f .last .1 .1 .1 .1 .1 .1 .0) (f .ensures .1) (c .before .before .before .before .before .if3 .taken) (c .before .before .copy-out .last .1 .1 .1 .0) (c .before .before .copy-out .ensures)
-
-pass-requires : tie.Need-pass-requires Inv-loop μ-loop
-pass-requires c κs =
-    let l = c .before .before .before .before .before .before .before .before .before .before .before in
-    let s = l .before .before .before .before in
-    let a = s .args in
-    let re = sym (l .before .before .grounded .ensures) ∙ not-false _ (l .before .if1 .left) in
-    let x = c .before .before .before .before .before .before .before .before .before .next in
-    let f = c .before .before .before .at-fault in
-    (omega (arith, s .pre .2 .number, s .pre .2 .pattern .few), s .pre .2 .roomy, walk-keeps (a .ticks .now) (a .events .now) (a .n) (s .pre .0) (a .rows .now) (a .count) (a .k) (s .pre .1) (a .antecedent) (a .pts .now) (a .np) (a .slots .now) (s .pre .2) re (l .loop .env) (l .loop .inv .0) (l .loop .inv .1) (x .result) (x .last .1 .1 .1 .1 .1 .1 .1 .1 .1 .0) (x .ensures .0) (x .ensures .1) (not-false _ (c .before .before .before .before .before .before .before .before .if2 .left)) (f .result) (f .ensures .0) (f .last .1 .1 .1 .1 .1 .1 .0) (f .ensures .1) .size, loop-room (a .ticks .now) (a .events .now) (a .n) (s .pre .0) (a .rows .now) (a .count) (a .k) (s .pre .1) (a .antecedent) (a .pts .now) (a .np) (a .slots .now) (s .pre .2) re (l .loop .env) (l .loop .inv .0) (l .loop .inv .1) (x .result) (x .last .1 .1 .1 .1 .1 .1 .1 .1 .1 .0) (x .ensures .0) (x .ensures .1) (not-false _ (c .before .before .before .before .before .before .before .before .if2 .left)) (f .result) (f .ensures .0) (f .last .1 .1 .1 .1 .1 .1 .0) (f .ensures .1))
-
-returns-4 : tie.Need-returns-4 Inv-loop μ-loop
-returns-4 c =
     let l = c .before .before .before .before .before .before .before .before .before .before .before .before .before .before in
     let s = l .before .before .before .before in
     let a = s .args in
     let re = sym (l .before .before .grounded .ensures) ∙ not-false _ (l .before .if1 .left) in
     let x = c .before .before .before .before .before .before .before .before .before .before .before .before .next in
+    let f = c .before .before .before .before .before .before .before .at-fault in
+    loop-hit (a .ticks .now) (a .events .now) (a .n) (s .pre .0) (a .rows .now) (a .count) (a .k) (s .pre .1) (a .antecedent) (a .pts .now) (a .np) (a .slots .now) (s .pre .2) re (l .loop .env) (l .loop .inv .0) (l .loop .inv .1) (x .result) (x .last .1 .1 .1 .1 .1 .1 .1 .1 .1 .0) (x .ensures .0) (x .ensures .1) (not-false _ (c .before .before .before .before .before .before .before .before .before .before .before .if2 .left)) (f .result) (f .ensures .0) (f .last .1 .1 .1 .1 .1 .1 .0) (f .ensures .1) (c .before .before .before .before .before .if3 .taken) (c .before .before .copy-out .last .1 .1 .1 .0) (c .before .before .copy-out .ensures)
+
+pass-requires : tie.Need-pass-requires Inv-loop μ-loop
+pass-requires c κs =
+    let l = c .before .before .before .before .before .before .before .before .before .before in
+    let s = l .before .before .before .before in
+    let a = s .args in
+    let re = sym (l .before .before .grounded .ensures) ∙ not-false _ (l .before .if1 .left) in
+    let x = c .before .before .before .before .before .before .before .before .next in
+    let f = c .before .before .before .at-fault in
+    (omega (arith, s .pre .2 .number, s .pre .2 .pattern .few), s .pre .2 .roomy, walk-keeps (a .ticks .now) (a .events .now) (a .n) (s .pre .0) (a .rows .now) (a .count) (a .k) (s .pre .1) (a .antecedent) (a .pts .now) (a .np) (a .slots .now) (s .pre .2) re (l .loop .env) (l .loop .inv .0) (l .loop .inv .1) (x .result) (x .last .1 .1 .1 .1 .1 .1 .1 .1 .1 .0) (x .ensures .0) (x .ensures .1) (not-false _ (c .before .before .before .before .before .before .before .if2 .left)) (f .result) (f .ensures .0) (f .last .1 .1 .1 .1 .1 .1 .0) (f .ensures .1) .size, loop-room (a .ticks .now) (a .events .now) (a .n) (s .pre .0) (a .rows .now) (a .count) (a .k) (s .pre .1) (a .antecedent) (a .pts .now) (a .np) (a .slots .now) (s .pre .2) re (l .loop .env) (l .loop .inv .0) (l .loop .inv .1) (x .result) (x .last .1 .1 .1 .1 .1 .1 .1 .1 .1 .0) (x .ensures .0) (x .ensures .1) (not-false _ (c .before .before .before .before .before .before .before .if2 .left)) (f .result) (f .ensures .0) (f .last .1 .1 .1 .1 .1 .1 .0) (f .ensures .1))
+
+returns-4 : tie.Need-returns-4 Inv-loop μ-loop
+returns-4 c =
+    let l = c .before .before .before .before .before .before .before .before .before .before .before .before .before in
+    let s = l .before .before .before .before in
+    let a = s .args in
+    let re = sym (l .before .before .grounded .ensures) ∙ not-false _ (l .before .if1 .left) in
+    let x = c .before .before .before .before .before .before .before .before .before .before .before .next in
     let f = c .before .before .before .before .before .before .at-fault in
     let g = c .before .before .pass in
-    c .unviolated3 .ensures ∙ loop-last (a .ticks .now) (a .events .now) (a .n) (s .pre .0) (a .rows .now) (a .count) (a .k) (s .pre .1) (a .antecedent) (a .pts .now) (a .np) (a .slots .now) (s .pre .2) re (l .loop .env) (l .loop .inv .0) (l .loop .inv .1) (x .result) (x .last .1 .1 .1 .1 .1 .1 .1 .1 .1 .0) (x .ensures .0) (x .ensures .1) (not-false _ (c .before .before .before .before .before .before .before .before .before .before .before .if2 .left)) (f .result) (f .ensures .0) (f .last .1 .1 .1 .1 .1 .1 .0) (f .ensures .1) (c .before .before .before .before .if3 .left) (no-points (a .np) (g .result) (g .ensures .0) (not-true _ (c .before .if4 .taken)))
+    c .unviolated3 .ensures ∙ loop-last (a .ticks .now) (a .events .now) (a .n) (s .pre .0) (a .rows .now) (a .count) (a .k) (s .pre .1) (a .antecedent) (a .pts .now) (a .np) (a .slots .now) (s .pre .2) re (l .loop .env) (l .loop .inv .0) (l .loop .inv .1) (x .result) (x .last .1 .1 .1 .1 .1 .1 .1 .1 .1 .0) (x .ensures .0) (x .ensures .1) (not-false _ (c .before .before .before .before .before .before .before .before .before .before .if2 .left)) (f .result) (f .ensures .0) (f .last .1 .1 .1 .1 .1 .1 .0) (f .ensures .1) (c .before .before .before .before .if3 .left) (no-points (a .np) (g .result) (g .ensures .0) (not-true _ (c .before .if4 .taken)))
 
 loop-less : tie.Need-loop-less Inv-loop μ-loop
 loop-less c =
-    let l = c .before .before .before .before .before .before .before .before .before .before .before .before .before in
+    let l = c .before .before .before .before .before .before .before .before .before .before .before .before in
     let s = l .before .before .before .before in
     let a = s .args in
     let re = sym (l .before .before .grounded .ensures) ∙ not-false _ (l .before .if1 .left) in
-    let x = c .before .before .before .before .before .before .before .before .before .before .before .next in
+    let x = c .before .before .before .before .before .before .before .before .before .before .next in
     let f = c .before .before .before .before .before .at-fault in
     let g = c .before .pass in
     let nz = some-points (a .np) (g .result) (g .ensures .0) (not-false _ (c .if4 .left)) in
-    loop-falls (a .ticks .now) (a .events .now) (a .n) (s .pre .0) (a .rows .now) (a .count) (a .k) (s .pre .1) (a .antecedent) (a .pts .now) (a .np) (a .slots .now) (s .pre .2) re (l .loop .env) (l .loop .inv .0) (l .loop .inv .1) (x .result) (x .last .1 .1 .1 .1 .1 .1 .1 .1 .1 .0) (x .ensures .0) (x .ensures .1) (not-false _ (c .before .before .before .before .before .before .before .before .before .before .if2 .left)) (f .result) (f .ensures .0) (f .last .1 .1 .1 .1 .1 .1 .0) (f .ensures .1) nz (g .last .1 .1 .0) (g .ensures .1 .0 nz) (l .loop .inv .2)
+    loop-falls (a .ticks .now) (a .events .now) (a .n) (s .pre .0) (a .rows .now) (a .count) (a .k) (s .pre .1) (a .antecedent) (a .pts .now) (a .np) (a .slots .now) (s .pre .2) re (l .loop .env) (l .loop .inv .0) (l .loop .inv .1) (x .result) (x .last .1 .1 .1 .1 .1 .1 .1 .1 .1 .0) (x .ensures .0) (x .ensures .1) (not-false _ (c .before .before .before .before .before .before .before .before .before .if2 .left)) (f .result) (f .ensures .0) (f .last .1 .1 .1 .1 .1 .1 .0) (f .ensures .1) nz (g .last .1 .1 .0) (g .ensures .1 .0 nz) (l .loop .inv .2)
 
 loop-again : tie.Need-loop-again Inv-loop μ-loop
 loop-again c =
-    let l = c .before .before .before .before .before .before .before .before .before .before .before .before .before in
+    let l = c .before .before .before .before .before .before .before .before .before .before .before .before in
     let s = l .before .before .before .before in
     let a = s .args in
     let re = sym (l .before .before .grounded .ensures) ∙ not-false _ (l .before .if1 .left) in
-    let x = c .before .before .before .before .before .before .before .before .before .before .before .next in
+    let x = c .before .before .before .before .before .before .before .before .before .before .next in
     let f = c .before .before .before .before .before .at-fault in
     let g = c .before .pass in
     let nz = some-points (a .np) (g .result) (g .ensures .0) (not-false _ (c .if4 .left)) in (
-      pass-keeps (a .ticks .now) (a .events .now) (a .n) (s .pre .0) (a .rows .now) (a .count) (a .k) (s .pre .1) (a .antecedent) (a .pts .now) (a .np) (a .slots .now) (s .pre .2) re (l .loop .env) (l .loop .inv .0) (l .loop .inv .1) (x .result) (x .last .1 .1 .1 .1 .1 .1 .1 .1 .1 .0) (x .ensures .0) (x .ensures .1) (not-false _ (c .before .before .before .before .before .before .before .before .before .before .if2 .left)) (f .result) (f .ensures .0) (f .last .1 .1 .1 .1 .1 .1 .0) (f .ensures .1) nz (g .last .1 .1 .0) (g .ensures .1 .0 nz),
-      loop-miss (a .ticks .now) (a .events .now) (a .n) (s .pre .0) (a .rows .now) (a .count) (a .k) (s .pre .1) (a .antecedent) (a .pts .now) (a .np) (a .slots .now) (s .pre .2) re (l .loop .env) (l .loop .inv .0) (l .loop .inv .1) (x .result) (x .last .1 .1 .1 .1 .1 .1 .1 .1 .1 .0) (x .ensures .0) (x .ensures .1) (not-false _ (c .before .before .before .before .before .before .before .before .before .before .if2 .left)) (f .result) (f .ensures .0) (f .last .1 .1 .1 .1 .1 .1 .0) (f .ensures .1) nz (g .last .1 .1 .0) (g .ensures .1 .0 nz) (c .before .before .before .if3 .left),
-      pass-below (a .ticks .now) (a .events .now) (a .n) (s .pre .0) (a .rows .now) (a .count) (a .k) (s .pre .1) (a .antecedent) (a .pts .now) (a .np) (a .slots .now) (s .pre .2) re (l .loop .env) (l .loop .inv .0) (l .loop .inv .1) (x .result) (x .last .1 .1 .1 .1 .1 .1 .1 .1 .1 .0) (x .ensures .0) (x .ensures .1) (not-false _ (c .before .before .before .before .before .before .before .before .before .before .if2 .left)) (f .result) (f .ensures .0) (f .last .1 .1 .1 .1 .1 .1 .0) (f .ensures .1) nz (g .last .1 .1 .0) (g .ensures .1 .0 nz),
-      λ q. pass-begun (a .ticks .now) (a .events .now) (a .n) (s .pre .0) (a .rows .now) (a .count) (a .k) (s .pre .1) (a .antecedent) (a .pts .now) (a .np) (a .slots .now) (s .pre .2) re (l .loop .env) (l .loop .inv .0) (l .loop .inv .1) (x .result) (x .last .1 .1 .1 .1 .1 .1 .1 .1 .1 .0) (x .ensures .0) (x .ensures .1) (not-false _ (c .before .before .before .before .before .before .before .before .before .before .if2 .left)) (f .result) (f .ensures .0) (f .last .1 .1 .1 .1 .1 .1 .0) (f .ensures .1) nz (g .last .1 .1 .0) (g .ensures .1 .0 nz),
+      pass-keeps (a .ticks .now) (a .events .now) (a .n) (s .pre .0) (a .rows .now) (a .count) (a .k) (s .pre .1) (a .antecedent) (a .pts .now) (a .np) (a .slots .now) (s .pre .2) re (l .loop .env) (l .loop .inv .0) (l .loop .inv .1) (x .result) (x .last .1 .1 .1 .1 .1 .1 .1 .1 .1 .0) (x .ensures .0) (x .ensures .1) (not-false _ (c .before .before .before .before .before .before .before .before .before .if2 .left)) (f .result) (f .ensures .0) (f .last .1 .1 .1 .1 .1 .1 .0) (f .ensures .1) nz (g .last .1 .1 .0) (g .ensures .1 .0 nz),
+      loop-miss (a .ticks .now) (a .events .now) (a .n) (s .pre .0) (a .rows .now) (a .count) (a .k) (s .pre .1) (a .antecedent) (a .pts .now) (a .np) (a .slots .now) (s .pre .2) re (l .loop .env) (l .loop .inv .0) (l .loop .inv .1) (x .result) (x .last .1 .1 .1 .1 .1 .1 .1 .1 .1 .0) (x .ensures .0) (x .ensures .1) (not-false _ (c .before .before .before .before .before .before .before .before .before .if2 .left)) (f .result) (f .ensures .0) (f .last .1 .1 .1 .1 .1 .1 .0) (f .ensures .1) nz (g .last .1 .1 .0) (g .ensures .1 .0 nz) (c .before .before .before .if3 .left),
+      pass-below (a .ticks .now) (a .events .now) (a .n) (s .pre .0) (a .rows .now) (a .count) (a .k) (s .pre .1) (a .antecedent) (a .pts .now) (a .np) (a .slots .now) (s .pre .2) re (l .loop .env) (l .loop .inv .0) (l .loop .inv .1) (x .result) (x .last .1 .1 .1 .1 .1 .1 .1 .1 .1 .0) (x .ensures .0) (x .ensures .1) (not-false _ (c .before .before .before .before .before .before .before .before .before .if2 .left)) (f .result) (f .ensures .0) (f .last .1 .1 .1 .1 .1 .1 .0) (f .ensures .1) nz (g .last .1 .1 .0) (g .ensures .1 .0 nz),
+      λ q. pass-begun (a .ticks .now) (a .events .now) (a .n) (s .pre .0) (a .rows .now) (a .count) (a .k) (s .pre .1) (a .antecedent) (a .pts .now) (a .np) (a .slots .now) (s .pre .2) re (l .loop .env) (l .loop .inv .0) (l .loop .inv .1) (x .result) (x .last .1 .1 .1 .1 .1 .1 .1 .1 .1 .0) (x .ensures .0) (x .ensures .1) (not-false _ (c .before .before .before .before .before .before .before .before .before .if2 .left)) (f .result) (f .ensures .0) (f .last .1 .1 .1 .1 .1 .1 .0) (f .ensures .1) nz (g .last .1 .1 .0) (g .ensures .1 .0 nz),
     )
 
 pub first-violation-spec : {M : Type 1} → statement M
