@@ -1,4 +1,4 @@
-//! The proved code through the C interface beside plain Rust, in one run, as ratios: bench [check | once ours|plain check|NUMBER].
+//! The proved code through the C interface beside plain Rust, in one run, as ratios: bench [check | once ours|plain check|NUMBER | logs FOLDER].
 use satskhubo_tests::generate::logs::{mixed, uniform};
 use satskhubo_tests::generate::sheets::sheet_s;
 use satskhubo_tests::host::Host;
@@ -212,8 +212,21 @@ fn once(side: &str, what: &str) {
     }
 }
 
+/// 400 logs of 4,000 lines: every other one holds S, and the others are violated at the first scan.
+fn write_folder(folder: &str) {
+    std::fs::create_dir_all(folder).unwrap();
+    for number in 0..400 {
+        let text = if number % 2 == 0 { mixed_text(4000) } else { scans_text(4000) };
+        std::fs::write(format!("{folder}/{number:03}"), text).unwrap();
+    }
+}
+
 fn main() {
     let words: Vec<String> = std::env::args().skip(1).collect();
+    if let [word, folder] = &words[..] {
+        assert_eq!(word, "logs");
+        return write_folder(folder);
+    }
     if let [word, side, what] = &words[..] {
         assert_eq!(word, "once");
         return once(side, what);
