@@ -10,7 +10,7 @@
  * Every function gives one number. 1 to 11: the sheet is refused; 21 to 27: the log is refused; 31 to 34: the antiscenario's
  * number, the buffer, the places or the number of positions is refused; 0: the operation was carried out. The check gives 100 as
  * well: the sheet is violated. The sheet's refusals come before the log's, and the log's before 31 to 34. On a refusal no
- * memory of the caller's is written, but for satskhubo_show, which refuses nothing.
+ * memory of the caller's is written, but for satskhubo_show and satskhubo_line, which refuse nothing.
  */
 #ifndef SATSKHUBO_H
 #define SATSKHUBO_H
@@ -83,6 +83,16 @@ uint32_t satskhubo_check(const uint8_t *sheet, size_t sheet_len, const uint8_t *
  */
 uint32_t satskhubo_show(const uint8_t *sheet, size_t sheet_len, const uint8_t *log, size_t log_len, bool *of_log,
                         size_t *offset, size_t *length);
+
+/* The most bytes that a line of a sheet or of a log has: a sheet's row. */
+#define SATSKHUBO_MOST_LINE 35
+
+/*
+ * Shows the line itself. Gives the check's refusal, or 0, and always writes: the bytes of the line that the refusal is about stand
+ * at the front of `line`, the bytes after them are as they were, and *length is their number. Nothing refused: *length is 0.
+ */
+uint32_t satskhubo_line(const uint8_t *sheet, size_t sheet_len, const uint8_t *log, size_t log_len,
+                        uint8_t line[SATSKHUBO_MOST_LINE], size_t *length);
 
 /*
  * A number in a field, for hosts that read or write columns of their own. read: 0 and *value is the number in the first `width`

@@ -22,39 +22,50 @@ static size_t load(const char *name, uint8_t *into, size_t room) {
     return length;
 }
 
-/* The line that a refusal is about. */
+/* A refusal, with the line that it is about. */
 static int refused(uint32_t refusal, const uint8_t *sheet, size_t sheet_len, const uint8_t *log, size_t log_len) {
-    bool of_log = false;
-    size_t offset = 0, length = 0;
-    satskhubo_show(sheet, sheet_len, log, log_len, &of_log, &offset, &length);
+    uint8_t line[SATSKHUBO_MOST_LINE];
+    size_t length = 0;
+    satskhubo_line(sheet, sheet_len, log, log_len, line, &length);
     printf("refused %u: ", refusal);
-    fwrite((of_log ? log : sheet) + offset, 1, length, stdout);
+    fwrite(line, 1, length, stdout);
     printf("\n");
     return 2;
 }
 
-static void search_all(const uint8_t *sheet, size_t sheet_len, const uint8_t *log, size_t log_len) {
+/* One antiscenario: its text and where it is found. Gives the refusal, or 0. */
+static uint32_t search_one(const uint8_t *sheet, size_t sheet_len, const uint8_t *log, size_t log_len, uint64_t number) {
+    struct satskhubo_placement placement = {{0}, 0};
+    uint8_t text[SATSKHUBO_MOST_TEXT];
+    size_t length = 0;
+    bool found = false, met = false;
+    uint32_t answer = satskhubo_search(sheet, sheet_len, log, log_len, number, placement.positions, SATSKHUBO_MOST_POINTS, &found);
+    if (answer != 0 || !found)
+        return answer;
+    answer = satskhubo_write(sheet, sheet_len, number, text, sizeof text, &length);
+    if (answer != 0)
+        return answer;
+    printf("antiscenario %llu:\n", (unsigned long long)number);
+    fwrite(text, 1, length, stdout);
+    /* A placement is a matching of one number of points alone: any other is refused with 34. */
+    while ((answer = satskhubo_judge(sheet, sheet_len, log, log_len, number, placement, &met)) == 34)
+        placement.count++;
+    if (answer != 0)
+        return answer;
+    printf("found at");
+    for (size_t i = 0; i < placement.count; i++)
+        printf(" %u", placement.positions[i]);
+    printf(met ? "\n" : ", which is no matching\n");
+    return 0;
+}
+
+/* Every antiscenario. Gives the first refusal, or 0. */
+static uint32_t search_all(const uint8_t *sheet, size_t sheet_len, const uint8_t *log, size_t log_len) {
     uint64_t count = 0;
-    satskhubo_read_sheet(sheet, sheet_len, &count);
-    for (uint64_t number = 1; number <= count; number++) {
-        struct satskhubo_placement placement = {{0}, 0};
-        uint8_t text[SATSKHUBO_MOST_TEXT];
-        size_t length = 0;
-        bool found = false, met = false;
-        satskhubo_search(sheet, sheet_len, log, log_len, number, placement.positions, SATSKHUBO_MOST_POINTS, &found);
-        if (!found)
-            continue;
-        satskhubo_write(sheet, sheet_len, number, text, sizeof text, &length);
-        printf("antiscenario %llu:\n", (unsigned long long)number);
-        fwrite(text, 1, length, stdout);
-        /* A placement is a matching of one number of points alone. */
-        while (satskhubo_judge(sheet, sheet_len, log, log_len, number, placement, &met) == 34)
-            placement.count++;
-        printf("found at");
-        for (size_t i = 0; i < placement.count; i++)
-            printf(" %u", placement.positions[i]);
-        printf(met ? "\n" : ", which is no matching\n");
-    }
+    uint32_t answer = satskhubo_read_sheet(sheet, sheet_len, &count);
+    for (uint64_t number = 1; answer == 0 && number <= count; number++)
+        answer = search_one(sheet, sheet_len, log, log_len, number);
+    return answer;
 }
 
 int main(int argc, char **argv) {
@@ -82,6 +93,6 @@ int main(int argc, char **argv) {
     for (uint32_t i = 0; i < consequents; i++)
         printf(" %u", rows[i]);
     printf("\n");
-    search_all(sheet, sheet_len, log, log_len);
-    return 1;
+    answer = search_all(sheet, sheet_len, log, log_len);
+    return answer == 0 ? 1 : refused(answer, sheet, sheet_len, log, log_len);
 }

@@ -11,7 +11,7 @@ ghost use Rattle.antiscenario.specs.Judge.{judgeOf};
 ghost use Rattle.antiscenario.specs.Write.{writeOf, afterWrite};
 ghost use Rattle.search.specs.Searching.{searchOf};
 ghost use Rattle.verdict.specs.Check.{checkOf};
-ghost use Rattle.verdict.specs.Showing.{partOf};
+ghost use Rattle.verdict.specs.Showing.{partOf, shownLine};
 ghost use Rattle.bench.specs.Host.{hostNumber, unlessRefused, whenViolated, fronted, fieldNumber, fieldValue, entryNumber};
 
 const VIOLATED: u32 = 100;
@@ -182,6 +182,38 @@ pub extern "C" fn satskhubo_show(
     *within = part.log;
     *offset = part.from;
     *size = part.to - part.from;
+    part.refusal
+}
+
+// All bytes of a line to the front of other bytes.
+fn copy_line(from: &[u8], to: &mut [u8])
+    requires { ⌜ length (now from) ≤ length (now to) ⌝ }
+    ensures { λ _. ⌜ now (to .exit) ≡ fronted (length (now (from .entry))) (now (from .entry)) (now (to .entry)) ⌝ }
+{
+    let mut i: usize = 0;
+    while i < from.len() {
+        to[i] = from[i];
+        i += 1;
+    }
+}
+
+// Show the line itself: the check's refusal, or 0, and the bytes of the line that it is about in front of what was there. No line has
+// more than 35. It refuses nothing.
+#[no_mangle]
+pub extern "C" fn satskhubo_line<'a>(
+    sheet: &'a [u8],
+    log: &'a [u8],
+    line: &mut [u8; 35],
+    size: &mut usize,
+) -> u32
+    ensures answer { λ r. ⌜ r ≡ partOf (now (sheet .entry)) (now (log .entry)) .refusal ⌝ }
+    ensures line { λ _. ⌜ now (line .exit) ≡ fronted (length (shownLine (now (sheet .entry)) (now (log .entry)))) (shownLine (now (sheet .entry)) (now (log .entry))) (now (line .entry)) ⌝ }
+    ensures size { λ _. ⌜ now (size .exit) ≡ length (shownLine (now (sheet .entry)) (now (log .entry))) ⌝ }
+{
+    let part = verdict::shown_part(sheet, log);
+    let shown = verdict::show_line(sheet, log);
+    copy_line(shown, line);
+    *size = shown.len();
     part.refusal
 }
 

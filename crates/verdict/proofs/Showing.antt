@@ -6,7 +6,7 @@ use mathlib.Core.Bool.{Bool, true, false, not, cond, _&&_}
 use mathlib.Core.List.{List}
 use Prim.Native.Nat.{ℕ, zero, suc, _+_, _-_, _*_, _≤_, _<_, min}
 use native.Mathlib.Omega.{arith}
-use lib.ListN.{length, getD, take, drop}
+use lib.ListN.{length, getD, take, drop, length-take}
 use lib.Dec.{eqb, leb, ltb}
 use borrow.Author.Tests.{eq-eqb, ne-eqb, eqb-true, eqb-false, le-leb, lt-leb, leb-true}
 use Rattle.columns.specs.Number.{fieldAt}
@@ -272,3 +272,23 @@ module _ (s l : List ℕ) where
 
   pub end-sheet : (x : Part) → Inside s l x → x .log ≡ false → x .to ≤ length s
   end-sheet x i t = subst (λ (b : Bool). x .to ≤ length (cond b l s)) t (i .end)
+
+  -- no row or line has more than 35 bytes, and no first line more than 28
+  part-few : (x : Part) → x ≡ partOf s l → x .to ≤ x .from + 35
+  unfolding partOf sheetPart logPart
+  part-few x e = subst (λ (y : Part). y .to ≤ y .from + 35) (sym e) (few (eqb (reading.answer s .refusal) 0) (eqb (log.answer l .refusal) 0))
+    where
+      pick : (b : Bool) (y z : Part) → y .to ≤ y .from + 35 → z .to ≤ z .from + 35 → cond b y z .to ≤ cond b y z .from + 35
+      pick true y z f g = f
+      pick false y z f g = g
+
+      few : (b c : Bool)
+          → let y = cond (not b) (sheetPart s (reading.answer s .refusal) (reading.answer s .row)) (cond (not c) (logPart l (log.answer l .refusal) (log.answer l .line)) (part 0 false 0 0)) in
+          y .to ≤ y .from + 35
+      few false c = pick (leb 4 (reading.answer s .refusal) && leb (reading.answer s .refusal) 10) _ _ (omega arith) (omega arith)
+      few true false = pick (leb 24 (log.answer l .refusal) && leb (log.answer l .refusal) 26) _ _ (omega arith) (omega arith)
+      few true true = omega arith
+
+  pub shown-few : length (shownLine s l) ≤ 35
+  unfolding shownLine
+  shown-few = simp length-take (omega (arith, part-few (partOf s l) refl))
