@@ -127,7 +127,7 @@ accepted-spelt s = (
 )
 
 -- The lines of an accepted sheet, from its rows alone
-lines-from-tags : (ls : List Line) → All (λ (l : Line). fields (rowIn l) ≡ five (l .kind) (l .p) (l .q) (l .a) (l .b)) ls → map numbersOf (map tag ls) ≡ ls
+pub lines-from-tags : (ls : List Line) → All (λ (l : Line). fields (rowIn l) ≡ five (l .kind) (l .p) (l .q) (l .a) (l .b)) ls → map numbersOf (map tag ls) ≡ ls
 unfolding numbersOf
 lines-from-tags [] N = refl
 lines-from-tags (l ∷ ls) N = ap₂ _∷_ (ap (λ (f : Fields). six (l .section) (f .kind) (f .p) (f .q) (f .a) (f .b)) (N .0)) (lines-from-tags ls (N .1))
