@@ -6,7 +6,6 @@ pub mod Section
 pub mod Points
 pub mod Far
 pub mod Product
-pub mod Bounded
 pub mod Glue
 pub mod Place
 -- Demand 3 of sound sheets, and the check's rows at fault.

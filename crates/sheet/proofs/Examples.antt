@@ -214,12 +214,12 @@ room-and-count =
     -- 10: 32 rows in the antecedent, 24 in a consequent; the row that is one too many, before any later one
     bytes (sheetText 0 (replicate 32 (whole 0))) 1 (sheetText 0 (replicate 33 (whole 0))) 10 33
     ∷ bytes (sheetText 1 (replicate 24 (whole 1))) 24 (sheetText 1 (replicate 25 (whole 1) ++ (six 1 0 0 0 0 0 ∷ []))) 10 25
-    -- 11: six consequents of four denials, and one of them with five
-    ∷ bytes (sheetText 6 (two ++ (four 1 ++ (four 2 ++ (four 3 ++ (four 4 ++ (four 5 ++ four 6))))))) 4096
-    (sheetText 6 (two ++ (four 1 ++ (four 2 ++ (four 3 ++ (four 4 ++ (four 5 ++ (four 6 ++ (whole 6 ∷ []))))))))) 11 0
-    -- a factor 0 makes N 0, also after a product over 4,096
-    ∷ bytes (sheetText 6 (two ++ (denied-six 1 ++ (denied-six 2 ++ (denied-six 3 ++ (denied-six 4 ++ denied-six 5)))))) 0
-    (sheetText 5 (two ++ (denied-six 1 ++ (denied-six 2 ++ (denied-six 3 ++ (denied-six 4 ++ denied-six 5)))))) 11 0
+    -- six consequents of four denials, and one of them with five (document 01's example of 11, which document 02 takes away)
+    ∷ bytes (sheetText 6 (two ++ (four 1 ++ (four 2 ++ (four 3 ++ (four 4 ++ (four 5 ++ four 6))))))) 4096 (sheetText 7 []) 2 0
+    ∷ bytes (sheetText 6 (two ++ (four 1 ++ (four 2 ++ (four 3 ++ (four 4 ++ (four 5 ++ (four 6 ++ (whole 6 ∷ []))))))))) 5120 (sheetText 7 []) 2 0
+    -- a factor 0 makes N 0, whatever the others are
+    ∷ bytes (sheetText 6 (two ++ (denied-six 1 ++ (denied-six 2 ++ (denied-six 3 ++ (denied-six 4 ++ denied-six 5)))))) 0 (sheetText 7 []) 2 0
+    ∷ bytes (sheetText 5 (two ++ (denied-six 1 ++ (denied-six 2 ++ (denied-six 3 ++ (denied-six 4 ++ denied-six 5)))))) 7776 (sheetText 7 []) 2 0
     -- without consequents N is 1, with an empty one 0; FREE has two denials, one at an end
     ∷ bytes (sheetText 0 []) 1 (sheetText 7 []) 2 0
     ∷ bytes (sheetText 1 []) 0 (sheetText 7 []) 2 0

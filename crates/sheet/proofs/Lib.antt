@@ -11,6 +11,7 @@ pub mod Theorems
 pub mod Texts
 pub mod Values
 pub mod OneText
+pub mod Before
 pub mod Permits
 pub mod Valid
 pub mod Examples

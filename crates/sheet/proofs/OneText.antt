@@ -67,13 +67,12 @@ rows-read k (l ∷ ls) front i at h F A =
     (rows-read k ls (front ++ rowText l) (suc i) (after at l) (omega (arith, length-append front (rowText l), row-text-length l, h)) (F .1) (A .1 .1)) in
     rw (line, A .0) (ap (more l) rest)
 
--- What k and rows must be for a sheet: the limits, the columns, no row refused, and N.
+-- What k and rows must be for a sheet: the limits, the columns, and no row refused.
 pub record Acceptable (k : ℕ) (ls : List Line) : Type 0 where
   pub few-consequents : k ≤ 6
   pub few-rows : length ls ≤ 176
   pub in-columns : All Fits ls
   pub none-refused : Accepted k start ls
-  pub few-denials : count (sheetOf k ls) ≤ 4096
 
 module _ (k : ℕ) (ls : List Line) (S : Acceptable k ls) where
   head : headOf (sheetText k ls) ≡ headed 0 k (length ls)
@@ -89,7 +88,7 @@ module _ (k : ℕ) (ls : List Line) (S : Acceptable k ls) where
 
   text-answer : answer (sheetText k ls) ≡ accepted k (length ls) (count (sheetOf k ls))
   unfolding answer closing
-  text-answer = rw (head, text-taken) (simp (le-ltb 4096 (count (sheetOf k ls)) (S .few-denials)))
+  text-answer = rw (head, text-taken)
 
 -- What the text of k and rows is read as
 pub record ReadBack (k : ℕ) (ls : List Line) : Type 0 where
@@ -119,7 +118,6 @@ accepted-spelt s = (
           few-rows = omega (arith, A .size, A .short);
           in-columns = R .columns;
           none-refused = R .passed;
-          few-denials = omega (arith, A .count, A .most);
         };
         text = A .text;
       }),

@@ -128,7 +128,7 @@ weighed-most i (l ∷ ls) = go (eqb (l .section) i) (weighed-most i ls)
     go true h = omega (arith, weight-most (l .kind) (l .p) (l .q))
     go false h = omega arith
 
--- N at most 48 ^ 6, whatever refusal 11 says of it
+-- N is at most 48 ^ 6: two denials a row, 24 rows a consequent, six consequents
 module _ (k : ℕ) (ls : List Line) (A : Accepted k start ls) where
   product-most : (left i : ℕ) → 1 ≤ i → product i left ls ≤ 48 ^ left
   unfolding product

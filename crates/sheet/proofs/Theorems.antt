@@ -23,7 +23,7 @@ use Rattle.sheet.specs.declared.Stand.{Stand}
 use Rattle.sheet.specs.declared.Parsed.{Parsed}
 use Rattle.sheet.specs.declared.Parsed.the-variants.{Row as Parsed·row, Malformed}
 use Rattle.sheet.specs.Row.{start, lineOf, refusal}
-use Rattle.sheet.specs.Reading.{headOf, Taken, stop, onLine, after, rowBytes, rowsFrom, rowIn, section, sections, sheetOf, taken, refused, accepted, closing, answer}
+use Rattle.sheet.specs.Reading.{headOf, Taken, stop, onLine, after, rowBytes, rowsFrom, rowIn, section, sections, sheetOf, taken, refused, accepted, closing, answer, most-antiscenarios}
 use Rattle.sheet.specs.Memory.{lay, linesIn}
 use Rattle.sheet.specs.Text.{Fits, sheetText}
 use Rattle.sheet.proofs.Texts.{row-fits, text-only}
@@ -124,7 +124,7 @@ pub record AcceptedSheet (s : List ℕ) (sh : Sheet) (ls : List Line) : Type 0 w
   pub size : length ls ≡ answer s .rows
   pub short : answer s .rows ≤ 176
   pub count : answer s .count ≡ count sh
-  pub most : answer s .count ≤ 4096
+  pub most : answer s .count ≤ most-antiscenarios
   -- the memory has the lines, row by row
   pub memory : (m : List ℕ) → 1056 ≤ length m → linesIn (lay 0 ls m) 0 (answer s .rows) ≡ ls
 
@@ -132,18 +132,15 @@ pub record AcceptedSheet (s : List ℕ) (sh : Sheet) (ls : List Line) : Type 0 w
 
 pub record Closed (k : ℕ) (t : Taken) : Type 0 where
   pub none : t .number ≡ 0
-  pub most : count (sheetOf k (t .lines)) ≤ 4096
   pub is : closing k t ≡ accepted k (length (t .lines)) (count (sheetOf k (t .lines)))
 
 closed : (k : ℕ) (t : Taken) → closing k t .refusal ≡ 0 → Closed k t
 unfolding closing
-closed k t e = go (eqb (t .number) 0) (ltb 4096 (count (sheetOf k (t .lines)))) refl refl e
+closed k t e = go (eqb (t .number) 0) refl e
   where
-    go : (b c : Bool) → eqb (t .number) 0 ≡ b → ltb 4096 (count (sheetOf k (t .lines))) ≡ c
-        → cond b (cond c (refused 11 0) (accepted k (length (t .lines)) (count (sheetOf k (t .lines))))) (refused (t .number) (t .row)) .refusal ≡ 0 → Closed k t
-    go true true x y e = absurd (omega arith)
-    go true false x y e = record { none = eqb-true (t .number) 0 x; most = ltb-false 4096 (count (sheetOf k (t .lines))) y; is = simp (x, y) }
-    go false c x y e = absurd (eqb-false (t .number) 0 x e)
+    go : (b : Bool) → eqb (t .number) 0 ≡ b → cond b (accepted k (length (t .lines)) (count (sheetOf k (t .lines)))) (refused (t .number) (t .row)) .refusal ≡ 0 → Closed k t
+    go true x e = record { none = eqb-true (t .number) 0 x; is = simp x }
+    go false x e = absurd (eqb-false (t .number) 0 x e)
 
 pub record Taken·all (s : List ℕ) : Type 0 where
   pub head : headOf s .refusal ≡ 0
@@ -211,9 +208,8 @@ module _ (s : List ℕ) (e : answer s .refusal ≡ 0) where
       text-only s (head-good s (T .head)) start none (ap (λ (t : Taken). length (t .lines)) (sym (T .is)) ∙ all-there)
       ∙ ap₂ sheetText (sym (ap (λ (a : Answer). a .k) said)) (ap (λ (t : Taken). t .lines) (sym (T .is)))
 
-  few : count (sheetOf k ls) ≤ 4096
-  unfolding ls
-  few = C .most
+  few : count (sheetOf k ls) ≤ most-antiscenarios
+  few = count-most k ls all-accepted k6
 
   sheet : AcceptedSheet s (sheetOf k ls) ls
   unfolding sheetOf sections
@@ -228,7 +224,7 @@ module _ (s : List ℕ) (e : answer s .refusal ≡ 0) where
     size = sym (ap (λ (a : Answer). a .rows) said);
     short = omega (arith, ap (λ (a : Answer). a .rows) said, all-there, r176);
     count = ap (λ (a : Answer). a .count) said;
-    most = subst (λ (n : ℕ). n ≤ 4096) (sym (ap (λ (a : Answer). a .count) said)) few;
+    most = subst (λ (n : ℕ). n ≤ most-antiscenarios) (sym (ap (λ (a : Answer). a .count) said)) few;
     memory = found;
   }
 
@@ -247,14 +243,6 @@ unfolding k ls
 accepted-rows s e =
     subst (λ (j : ℕ). AcceptedRows j (ls s e)) (sym (ap (λ (a : Answer). a .k) (said s e)))
     (record { few = k6 s e; passed = all-accepted s e; columns = all-fit s e })
-
--- N before refusal 11 looks at it: where no row is refused it is at most 48 ^ 6
-pub most-count : (s : List ℕ) → taken s .number ≡ 0 → count (sheetOf (headOf s .k) (taken s .lines)) ≤ 48 ^ 6
-most-count s e =
-    let T = taken-all s e in
-    let none = ap (λ (t : Taken). t .number) (sym (T .is)) ∙ e in
-    let A = subst (λ (t : Taken). Accepted (headOf s .k) start (t .lines)) (sym (T .is)) (fine (headOf s .k) s (headOf s .rows) 0 start none .0) in
-    count-most (headOf s .k) (taken s .lines) A (head-good s (T .head) .k)
 
 -- Demand 3 of every accepted sheet
 pub accepted-demand : (s : List ℕ) → answer s .refusal ≡ 0 → (g : Log) → All (λ (e : ℕ). e < 32) (g .events)

@@ -282,7 +282,6 @@ module _ (k : ℕ) (rows : List Tagged) (W : ValidSheet k rows) where
         few-rows = omega (arith, length-map rows numbersOf, W .few-rows);
         in-columns = A .1;
         none-refused = A .0;
-        few-denials = rw (sheet-rows k rows) (W .few-antiscenarios);
       }
 
 -- What the text of a valid sheet is read as: k, the row count and N, and its own rows.
@@ -323,7 +322,6 @@ module _ (s : List ℕ) (e : answer s .refusal ≡ 0) where
             (valid-from (answer s .k) (R .few) tags [] start stands-start (rw back (R .passed)) (rw back (R .columns)));
         antecedent-rows = rw (read-section 0) (antecedent-room (answer s .k) (taken s .lines) (R .passed));
         consequent-rows = λ i h. rw (read-section i) (consequent-room (answer s .k) (taken s .lines) (R .passed) i h);
-        few-antiscenarios = rw read-sheet (omega (arith, A .count, A .most));
       }
 
 pub accepted-valid : (s : List ℕ) → (answer s .refusal ≡ 0) ↔ ValidText s

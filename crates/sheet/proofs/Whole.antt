@@ -61,10 +61,6 @@ module _ (s : List ℕ) (h : Head) (e : h ≡ headOf s) where
           ∙ sym (count-product (h .k) (rowsFrom (h .k) s 0 (h .rows) start .lines))
 
       module _ (n : ℕ) (c : n ≡ count (sheetOf (h .k) (rowsFrom (h .k) s 0 (h .rows) start .lines))) where
-        pub over : 4096 < n → refused 11 0 ≡ answer s
+        pub done : accepted (h .k) (h .rows) n ≡ answer s
         unfolding rows closing
-        over l = rw (answer-is, sym none, sym c) (simp (lt-ltb 4096 n l))
-
-        pub done : n ≤ 4096 → accepted (h .k) (h .rows) n ≡ answer s
-        unfolding rows closing
-        done l = rw (answer-is, sym none, sym c) (simp (le-ltb 4096 n l, all))
+        done = rw (answer-is, sym none, sym c) (simp all)

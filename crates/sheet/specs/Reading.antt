@@ -3,7 +3,7 @@
 use mathlib.Core.Bool.{not, cond}
 use mathlib.Core.List.{List, [], _∷_}
 use mathlib.Core.Option.{Option, none, some}
-use Prim.Native.Nat.{ℕ, zero, suc, _+_, _*_}
+use Prim.Native.Nat.{ℕ, zero, suc, _+_, _*_, _^_}
 use lib.ListN.{length, getD, take, drop}
 use lib.Dec.{ltb, eqb}
 use Rattle.columns.specs.Number.{fieldAt}
@@ -113,12 +113,13 @@ refused number row = record { refusal = number; row = row; k = 0; rows = 0; coun
 abbrev pub accepted : (k rows n : ℕ) → Answer
 accepted k rows n = record { refusal = 0; row = 0; k = k; rows = rows; count = n }
 
--- "last 11 N over 4,096"
+-- the refusal of a row, or k, the row count and N. Document 02, A4: "Refusal 11 is never given."
 unfoldable pub closing : (k : ℕ) → Taken → Answer
-closing k t =
-    cond (eqb (t .number) 0)
-    (cond (ltb 4096 (count (sheetOf k (t .lines)))) (refused 11 0) (accepted k (length (t .lines)) (count (sheetOf k (t .lines)))))
-    (refused (t .number) (t .row))
+closing k t = cond (eqb (t .number) 0) (accepted k (length (t .lines)) (count (sheetOf k (t .lines)))) (refused (t .number) (t .row))
+
+-- document 02, A4: a row has at most 2 denials, a consequent at most 24 rows, and there are at most 6 consequents
+abbrev pub most-antiscenarios : ℕ
+most-antiscenarios = 48 ^ 6
 
 unfoldable pub answer : List ℕ → Answer
 answer s = closing (headOf s .k) (taken s)

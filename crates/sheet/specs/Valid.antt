@@ -122,8 +122,6 @@ pub record ValidSheet (k : ℕ) (rows : List Tagged) : Type 0 where
   -- "Section 0 is the antecedent (at most 32 rows), sections 1 to k the consequents (at most 24 rows each)."
   pub antecedent-rows : length (rowsOf 0 rows) ≤ 32
   pub consequent-rows : (i : ℕ) → 1 ≤ i → length (rowsOf i rows) ≤ 24
-  -- not "N over 4,096"
-  pub few-antiscenarios : count (sheetFrom k rows) ≤ 4096
 
 -- "First line: consequents k, row count. Rows: ..": the text, every field in its columns, "fields a kind doesn't mention are 0"
 unfoldable pub rowsSpelt : (k : ℕ) → List Tagged → List ℕ

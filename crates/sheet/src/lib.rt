@@ -6,7 +6,7 @@ ghost use Rattle.sheet.specs.Row.{lineOf, enter, advance, ordinary, know
 ghost use Rattle.sheet.specs.Reading.{headed, headOf, rowsFrom, taken, refused, answer, countOf};
 ghost use Rattle.sheet.specs.Memory.{put, lay, linesIn, edge, weightFree, weight, weighLine, lineIn, Weighed, product};
 
-// Document 01, "Sheet": at most 6 consequents, 176 rows, 32 of them in the antecedent and 24 in a consequent; N is at most 4,096.
+// Document 01, "Sheet": at most 6 consequents, 176 rows, 32 of them in the antecedent and 24 in a consequent. So N is at most 48^6.
 const MOST_CONSEQUENTS: u32 = 6;
 
 const MOST_ROWS: u32 = 176;
@@ -14,8 +14,6 @@ const MOST_ROWS: u32 = 176;
 const MOST_ANTECEDENT_ROWS: u32 = 32;
 
 const MOST_CONSEQUENT_ROWS: u32 = 24;
-
-const MOST_ANTISCENARIOS: u64 = 4096;
 
 // The antecedent and the consequents.
 pub const SECTIONS: usize = 7;
@@ -49,8 +47,6 @@ const WRONG_Q: u32 = 8;
 const WRONG_FIELD: u32 = 9;
 
 const SECTION_TOO_LONG: u32 = 10;
-
-const TOO_MANY_ANTISCENARIOS: u32 = 11;
 
 // What "Read a sheet" gives its caller: the refusal's number alone, or 0 and N.
 pub struct SheetCount {
@@ -572,7 +568,7 @@ pub fn weigh_sections(rows: &[u32], n: usize, denials: &mut [u64; SECTIONS])
     }
 }
 
-// A factor more, whatever came before: a factor 0 may follow a product over 4,096.
+// A factor more, whatever came before.
 fn multiplied(total: u64, denials: u64) -> u64
     requires { ⌜ total * denials < 18446744073709551616 ⌝ }
     ensures { λ r. ⌜ r ≡ total * denials ⌝ }
@@ -625,9 +621,6 @@ pub fn load_sheet(s: &[u8], rows: &mut [u32]) -> Answer
         return no_sheet(fault.refusal, fault.row);
     }
     let count = product_of(rows, head.rows, head.k);
-    if MOST_ANTISCENARIOS < count {
-        return no_sheet(TOO_MANY_ANTISCENARIOS, 0);
-    }
     Answer {
         refusal: 0,
         row: 0,
@@ -637,7 +630,7 @@ pub fn load_sheet(s: &[u8], rows: &mut [u32]) -> Answer
     }
 }
 
-// "Read a sheet (gives N)": the refusal 1 to 11, or 0 and N. The memory is its own, so that it writes nowhere.
+// "Read a sheet (gives N)": the refusal 1 to 10, or 0 and N. The memory is its own, so that it writes nowhere.
 pub fn read_sheet(sheet: &[u8]) -> SheetCount
     ensures { λ r. ⌜ r ≡ countOf (now (sheet .entry)) ⌝ }
 {

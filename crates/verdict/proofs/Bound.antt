@@ -1,6 +1,7 @@
 -- How large the numbers are that a check names: refusals up to 27, rows at fault up to 176.
 -- Carried by one bound on the refusals of each reader, and by a place in its consequent for each walk that stops.
 -- Assumes nothing.
+use mathlib.Core.Path.{_≡_}
 use mathlib.Core.Bool.{Bool, true, false, not, cond}
 use mathlib.Core.Option.{Option, none, some}
 use mathlib.Core.List.{List, [], _∷_}
@@ -29,7 +30,7 @@ use Rattle.runlog.specs.declared.LineRead.the-variants.{Refused, Line}
 use Rattle.runlog.specs.Log as log
 use Rattle.verdict.proofs.Showing.{sheet-head-low, log-head-low}
 
--- A sheet's refusals: 1 to 3, a row's 4 to 10, last 11
+-- A sheet's refusals: 1 to 3, a row's 4 to 10
 
 unless-low : (b : Bool) (r next : ℕ) → r ≤ 10 → next ≤ 10 → unless b r next ≤ 10
 unless-low true r next h k = k
@@ -61,21 +62,24 @@ rows-low k s (suc left) i at = go (lineOf (reading.rowBytes s i)) (λ at. rows-l
         taken-low (eqb (refusal k at l) 0) (reading.more l (reading.rowsFrom k s (suc i) left (reading.after at l))) (reading.stop (refusal k at l) (suc i)) (f (reading.after at l)) (row-low k at l)
     go Malformed f = omega arith
 
-sheet-closing-low : (k : ℕ) (t : reading.Taken) → t .number ≤ 10 → reading.closing k t .refusal ≤ 11
+sheet-closing-low : (k : ℕ) (t : reading.Taken) → t .number ≤ 10 → reading.closing k t .refusal ≤ 10
 unfolding reading.closing
-sheet-closing-low k t h = go (eqb (t .number) 0) (ltb 4096 (count (reading.sheetOf k (t .lines))))
+sheet-closing-low k t h = go (eqb (t .number) 0)
   where
-    go : (b c : Bool) → cond b (cond c (reading.refused 11 0) (reading.accepted k (length (t .lines)) (count (reading.sheetOf k (t .lines))))) (reading.refused (t .number) (t .row)) .refusal ≤ 11
-    go true true = omega arith
-    go true false = omega arith
-    go false c = omega arith
+    go : (b : Bool) → cond b (reading.accepted k (length (t .lines)) (count (reading.sheetOf k (t .lines)))) (reading.refused (t .number) (t .row)) .refusal ≤ 10
+    go true = omega arith
+    go false = omega arith
 
-pub sheet-refusal-low : (s : List ℕ) → reading.answer s .refusal ≤ 11
+pub sheet-refusal-low : (s : List ℕ) → reading.answer s .refusal ≤ 10
 unfolding reading.answer reading.taken
 sheet-refusal-low s =
     sheet-closing-low (reading.headOf s .k) (reading.taken s)
     (taken-low (eqb (reading.headOf s .refusal) 0) (reading.rowsFrom (reading.headOf s .k) s 0 (reading.headOf s .rows) start) (reading.stop (reading.headOf s .refusal) 0)
     (rows-low (reading.headOf s .k) s (reading.headOf s .rows) 0 start) (omega (arith, sheet-head-low s)))
+
+-- document 02, A4: "Refusal 11 is never given."
+pub never-eleven : (s : List ℕ) → reading.answer s .refusal ≡ 11 → ⊥
+never-eleven s e = omega (arith, e, sheet-refusal-low s)
 
 -- A log's refusals: 21 to 23, a line's 24 to 26, last 27
 

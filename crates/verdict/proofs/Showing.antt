@@ -82,14 +82,13 @@ pub record FromRow (t : reading.Taken) (a : SheetAnswer) : Type 0 where
 
 from-row : (k : ℕ) (t : reading.Taken) → 4 ≤ reading.closing k t .refusal → reading.closing k t .refusal ≤ 10 → FromRow t (reading.closing k t)
 unfolding reading.closing
-from-row k t = go (eqb (t .number) 0) (ltb 4096 (count (reading.sheetOf k (t .lines)))) refl
+from-row k t = go (eqb (t .number) 0) refl
   where
-    go : (b c : Bool) → eqb (t .number) 0 ≡ b
-        → let a = cond b (cond c (reading.refused 11 0) (reading.accepted k (length (t .lines)) (count (reading.sheetOf k (t .lines))))) (reading.refused (t .number) (t .row)) in
+    go : (b : Bool) → eqb (t .number) 0 ≡ b
+        → let a = cond b (reading.accepted k (length (t .lines)) (count (reading.sheetOf k (t .lines)))) (reading.refused (t .number) (t .row)) in
         4 ≤ a .refusal → a .refusal ≤ 10 → FromRow t a
-    go true true e lo hi = absurd (omega arith)
-    go true false e lo hi = absurd (omega arith)
-    go false c e lo hi = record { refused = eqb-false (t .number) 0 e; number = refl; row = refl }
+    go true e lo hi = absurd (omega arith)
+    go false e lo hi = record { refused = eqb-false (t .number) 0 e; number = refl; row = refl }
 
 pub row-stands : (s : List ℕ) → 4 ≤ reading.answer s .refusal → reading.answer s .refusal ≤ 10 → Stands (length s) 7 35 (reading.answer s .row)
 unfolding reading.answer reading.taken

@@ -11,7 +11,7 @@ use Rattle.sheet.specs.Row.{start}
 use Rattle.sheet.specs.Reading.{rowsFrom, sheetOf}
 use Rattle.sheet.specs.Memory.{product, linesIn}
 use Rattle.sheet.proofs.Store.{lay-length}
-use Rattle.sheet.proofs.Whole.{head-refused, head-memory, good, memory, row-refused, memory-count, over, done}
+use Rattle.sheet.proofs.Whole.{head-refused, head-memory, good, memory, row-refused, memory-count, done}
 use Rattle.sheet.proofs.load_sheet.Statement.{statement}
 use Rattle.sheet.proofs.load_sheet.Tie as tie
 
@@ -60,18 +60,10 @@ module _ (c : tie.After-product-of) where
 
 returns-3 : tie.Need-returns-3
 returns-3 c =
-    let d = c .before in
-    let p = d .before in
+    let p = c in
     let e = head-of p .first-line .ensures in
     let z = rows-of p .before .before .if1 .left in
-    (c .no-sheet3 .ensures ∙ over _ _ e z (none p) (head-of p .before .before .before .args .rows .now) (head-of p .before .before .before .pre) _ (counted p) (d .if3 .taken), rows-of p .read-rows .ensures .1 ∙ memory _ _ e z _)
-
-returns-4 : tie.Need-returns-4
-returns-4 c =
-    let p = c .before in
-    let e = head-of p .first-line .ensures in
-    let z = rows-of p .before .before .if1 .left in
-    (done _ _ e z (none p) (head-of p .before .before .before .args .rows .now) (head-of p .before .before .before .pre) _ (counted p) (c .if3 .left), rows-of p .read-rows .ensures .1 ∙ memory _ _ e z _)
+    (done _ _ e z (none p) (head-of p .before .before .before .args .rows .now) (head-of p .before .before .before .pre) _ (counted p), rows-of p .read-rows .ensures .1 ∙ memory _ _ e z _)
 
 pub load-sheet-spec : {M : Type 1} → statement M
 load-sheet-spec =
@@ -85,8 +77,5 @@ load-sheet-spec =
     (λ c. search needs)
     returns-2
     product-of-requires
-    (λ c κs. search needs)
     (λ c. search needs)
-    returns-3
-    (λ c. search needs)
-    returns-4)
+    returns-3)
