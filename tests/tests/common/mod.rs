@@ -36,3 +36,22 @@ pub fn top() -> std::path::PathBuf {
 pub fn said(output: &std::process::Output) -> String {
     String::from_utf8_lossy(&output.stdout).into_owned()
 }
+
+/// An empty folder of this name, below the tests' target folder.
+pub fn scratch(name: &str) -> std::path::PathBuf {
+    let folder = std::path::Path::new(env!("CARGO_TARGET_TMPDIR")).join(name);
+    let _ = std::fs::remove_dir_all(&folder);
+    std::fs::create_dir_all(&folder).expect("a folder is made");
+    folder
+}
+
+/// Asks until there is an answer; what it waits for comes soon, or never.
+pub fn until<T>(what: &str, ask: impl Fn() -> Option<T>) -> T {
+    for _ in 0..6000 {
+        if let Some(answer) = ask() {
+            return answer;
+        }
+        std::thread::sleep(std::time::Duration::from_millis(5));
+    }
+    panic!("waited in vain: {what}")
+}
