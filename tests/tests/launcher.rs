@@ -19,12 +19,12 @@ echo archive >target/staticlib/libbench.a
 echo 'rt: target/staticlib/libbench.a has the functions of bench'
 "#;
 
-/// cargo: takes note, and writes a program that says its arguments and ends with 7.
+/// cargo: takes note, and writes a program that says its version, or its arguments, and ends with 7.
 const CARGO: &str = r#"#!/bin/sh
 echo "cargo $* ${BENCH_ARCHIVE-}${CARGO_TARGET_DIR-}" >>calls
 if [ -e meanwhile_cargo ]; then . ./meanwhile_cargo; fi
 mkdir -p cli/target/release
-printf '#!/bin/sh\nfor word; do printf "[%%s]" "$word"; done\nexit 7\n' >cli/target/release/satskhubo
+printf '#!/bin/sh\nif [ "$*" = --version ]; then echo version; exit; fi\nfor word; do printf "[%%s]" "$word"; done\nexit 7\n' >cli/target/release/satskhubo
 chmod +x cli/target/release/satskhubo
 "#;
 
@@ -54,7 +54,7 @@ impl Tree {
     fn new(name: &str) -> Tree {
         let room = scratch(name);
         let tree = Tree { top: room.join("a tree\n"), tools: room.join("tools") };
-        for file in ["satskhubo", "build.sh"] {
+        for file in ["satskhubo", "build.sh", "install.sh", "include/satskhubo.h", "docs/satskhubo.1"] {
             write(&tree.path(file), &fs::read_to_string(top().join(file)).unwrap(), 0o755);
         }
         write(&tree.path("crates.txt"), "# crates\ncolumns:\nsheet: columns libc\nother: sheet\nbench: columns sheet\n", 0o644);
@@ -83,6 +83,13 @@ impl Tree {
         command
     }
 
+    fn install(&self, prefix: &str) -> Output {
+        let mut command = Command::new("sh");
+        command.arg(self.path("install.sh")).arg(prefix).current_dir(self.top.parent().unwrap()).stdin(Stdio::null());
+        command.env("PATH", format!("{}:{}", self.tools.display(), std::env::var("PATH").unwrap()));
+        command.output().expect("install.sh runs")
+    }
+
     fn run(&self) -> Output {
         self.command().output().expect("the launcher runs")
     }
@@ -103,7 +110,7 @@ impl Tree {
 
     /// Has the stand-in for rt say its process number and wait until it is let go, with a child that ignores Ctrl-C.
     fn hold(&self) {
-        let meanwhile = "sh -c 'trap \"\" INT; while [ ! -e go ]; do sleep 0.02; done' & echo $! >held; wait\n";
+        let meanwhile = "sh -c 'trap \"\" INT; while [ -e meanwhile ] && [ ! -e go ]; do sleep 0.02; done' & echo $! >held; wait\n";
         write(&self.path("meanwhile"), meanwhile, 0o644);
     }
 
@@ -333,4 +340,50 @@ fn ctrl_c_ends_the_whole_build() {
         tree.run_and_expect(7);
         assert_eq!(tree.calls(), format!("{RT_CALL}{CARGO_CALL}"));
     }
+}
+
+#[test]
+fn install_builds_and_puts_four_files() {
+    let tree = Tree::new("install");
+    let output = tree.install("a prefix");
+    assert_eq!((output.status.code(), String::from_utf8_lossy(&output.stderr).as_ref()), (Some(0), PROGRESS));
+    let put = ["bin/satskhubo", "include/satskhubo.h", "lib/libbench.a", "share/man/man1/satskhubo.1"];
+    assert_eq!(said(&output), format!("version\n{}\n", put.map(|file| format!("a prefix/{file}")).join("\n")));
+    let prefix = tree.top.parent().unwrap().join("a prefix");
+    let there = said(&shell("find . ! -type d | LC_ALL=C sort", &prefix));
+    assert_eq!(there, put.map(|file| format!("./{file}\n")).concat());
+    for (file, from, mode) in [
+        (put[0], "cli/target/release/satskhubo", 0o755),
+        (put[1], "include/satskhubo.h", 0o644),
+        (put[2], "target/staticlib/libbench.a", 0o644),
+        (put[3], "docs/satskhubo.1", 0o644),
+    ] {
+        assert_eq!(fs::read(prefix.join(file)).unwrap(), fs::read(tree.path(from)).unwrap(), "{file}");
+        assert_eq!(fs::metadata(prefix.join(file)).unwrap().permissions().mode() & 0o777, mode, "{file}");
+    }
+    // Over an older one, without building again.
+    write(&prefix.join(put[0]), "older", 0o600);
+    tree.calls();
+    assert!(tree.install("a prefix").status.success());
+    assert_eq!(fs::metadata(prefix.join(put[0])).unwrap().permissions().mode() & 0o777, 0o755);
+    assert_eq!(tree.calls(), "");
+}
+
+#[test]
+fn install_that_cannot_ends_with_2_and_words() {
+    let tree = Tree::new("install-fails");
+    write(&tree.tools.join("../taken/bin"), "a file", 0o644);
+    for (prefix, words) in [("", "usage: "), ("--help", "usage: "), ("taken", "taken/bin cannot be made")] {
+        let output = tree.install(prefix);
+        let heard = String::from_utf8_lossy(&output.stderr).into_owned();
+        assert_eq!(output.status.code(), Some(2), "{heard}");
+        assert!(heard.contains("install.sh: ") && heard.contains(words), "{heard}");
+    }
+    write(&tree.path("crates/sheet/src/lib.rt"), "changed\n", 0o644);
+    write(&tree.path("meanwhile"), "exit 1\n", 0o644);
+    let output = tree.install("prefix");
+    let heard = String::from_utf8_lossy(&output.stderr).into_owned();
+    assert_eq!((output.status.code(), said(&output).as_str()), (Some(2), ""), "{heard}");
+    assert!(heard.ends_with("install.sh: the program was not built, and nothing is installed\n"), "{heard}");
+    assert!(!tree.top.parent().unwrap().join("prefix").exists());
 }
