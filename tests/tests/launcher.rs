@@ -58,7 +58,9 @@ impl Tree {
             write(&tree.path(file), &fs::read_to_string(top().join(file)).unwrap(), 0o755);
         }
         write(&tree.path("crates.txt"), "# crates\ncolumns:\nsheet: columns libc\nother: sheet\nbench: columns sheet\n", 0o644);
-        for file in ["crates/columns/src/lib.rt", "crates/sheet/src/lib.rt", "cli/Cargo.toml", "cli/src/main.rs", "interface/src/lib.rs"] {
+        for file in
+            ["crates/columns/src/lib.rt", "crates/sheet/src/lib.rt", "cli/Cargo.toml", "cli/src/main.rs", "interface/src/lib.rs"]
+        {
             write(&tree.path(file), "source\n", 0o644);
         }
         write(&tree.tools.join("rt"), RT, 0o755);
@@ -110,7 +112,8 @@ impl Tree {
 
     /// Has the stand-in for rt say its process number and wait until it is let go, with a child that ignores Ctrl-C.
     fn hold(&self) {
-        let meanwhile = "sh -c 'trap \"\" INT; while [ -e meanwhile ] && [ ! -e go ]; do sleep 0.02; done' & echo $! >held; wait\n";
+        let meanwhile =
+            "sh -c 'trap \"\" INT; while [ -e meanwhile ] && [ ! -e go ]; do sleep 0.02; done' & echo $! >held; wait\n";
         write(&self.path("meanwhile"), meanwhile, 0o644);
     }
 
@@ -144,7 +147,8 @@ fn shell(text: &str, folder: &Path) -> Output {
 fn a_first_run_builds_and_hands_over() {
     let tree = Tree::new("launcher-first");
     let words = ["check", "--", "-a log", "two\nlines", "*", ""];
-    let output = tree.command().args(words).env("BENCH_ARCHIVE", "/elsewhere").env("CARGO_TARGET_DIR", "/elsewhere").output().unwrap();
+    let output =
+        tree.command().args(words).env("BENCH_ARCHIVE", "/elsewhere").env("CARGO_TARGET_DIR", "/elsewhere").output().unwrap();
     assert_eq!(String::from_utf8_lossy(&output.stderr), PROGRESS);
     assert_eq!((output.status.code(), said(&output).as_str()), (Some(7), "[check][--][-a log][two\nlines][*][]"));
     assert_eq!(tree.calls(), format!("{RT_CALL}{CARGO_CALL}"));
@@ -233,7 +237,10 @@ fn without_rt_or_cargo_it_says_where_they_come_from() {
         symlink(found.trim_end(), tree.tools.join(tool)).unwrap();
     }
     let run = || tree.command().env("PATH", &tree.tools).output().unwrap();
-    for (tool, words) in [("cargo", "cargo, which builds the program, is not on this machine"), ("rt", "It is part of the Rattle kit (/opt/rattle")] {
+    for (tool, words) in [
+        ("cargo", "cargo, which builds the program, is not on this machine"),
+        ("rt", "It is part of the Rattle kit (/opt/rattle"),
+    ] {
         fs::remove_file(tree.tools.join(tool)).unwrap();
         let _ = fs::remove_dir_all(tree.path("target"));
         let output = run();
