@@ -1,6 +1,7 @@
 //! What the tests share: a panic for a mismatch, and the count of comparisons told past the harness.
 #![allow(dead_code)]
 use satskhubo_tests::compare::{compare, Mismatch, Tally};
+use satskhubo_tests::generate::logs::log_of;
 use satskhubo_tests::generate::pairs::pair_of;
 use satskhubo_tests::outcome::Side;
 use std::io::Write;
@@ -54,4 +55,11 @@ pub fn until<T>(what: &str, ask: impl Fn() -> Option<T>) -> T {
         std::thread::sleep(std::time::Duration::from_millis(5));
     }
     panic!("waited in vain: {what}")
+}
+
+/// 4,000 lines, the last ones a scan, an injection and a scan: what number 1 of the largest sheet matches.
+pub fn largest_log() -> Vec<u8> {
+    let mut lines: Vec<(u32, u32)> = (1..=4000).map(|line| (line, 2)).collect();
+    lines[3997..].copy_from_slice(&[(3998, 3), (3999, 1), (4000, 3)]);
+    log_of(&lines).text()
 }
