@@ -1,0 +1,8 @@
+//! satskhubo explain.
+use crate::arguments::Asked;
+use crate::output::{complain, Output, FAILED};
+
+pub fn run(_asked: &Asked, _output: &mut Output) -> i32 {
+    complain("explain is not built yet");
+    FAILED
+}

@@ -1,0 +1,8 @@
+//! satskhubo search.
+use crate::arguments::Asked;
+use crate::output::{complain, Output, FAILED};
+
+pub fn run(_asked: &Asked, _output: &mut Output) -> i32 {
+    complain("search is not built yet");
+    FAILED
+}
