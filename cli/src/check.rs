@@ -1,11 +1,11 @@
 //! satskhubo check: a verdict on each log.
-use crate::arguments::{Asked, Form};
+use crate::arguments::{Asked, Command, Form};
 use crate::input::{read, Input};
 use crate::json::{array, Object};
 use crate::log::{is_in, Log};
 use crate::logs::{Listed, Logs};
 use crate::names::Name;
-use crate::opened::{named, open, refused_object, Opened};
+use crate::opened::{named, no_facts, open, refused_columns, refused_object, Opened};
 use crate::order::in_order;
 use crate::output::{Output, FAILED};
 use crate::placed::{in_object, placed};
@@ -67,7 +67,7 @@ impl Task {
         match verdict {
             Verdict::Holds => self.holds(log),
             Verdict::Violated { placement, rows } => self.violated(log, &placement, &rows),
-            Verdict::Refused(refusal) => refused(&self.opened, self.form, self.is_one, log, refusal),
+            Verdict::Refused(refusal) => refused(&self.opened, Command::Check, self.form, self.is_one, log, refusal),
         }
     }
 
@@ -111,8 +111,7 @@ impl Task {
     fn holds_object(&self, name: &Name, log: &Log) -> String {
         let point =
             |(row, lines): (&Row, usize)| Object::new().number("point", row.p).number("set", row.a).number("lines", lines).end();
-        let object = rows_in_object(in_object(self.base(name, "holds"), &[]), &[]);
-        object.raw("antecedent", &array(self.antecedent(log).map(point))).end() + "\n"
+        no_facts(self.base(name, "holds")).raw("antecedent", &array(self.antecedent(log).map(point))).end() + "\n"
     }
 
     fn violated(&self, input: &Input, placement: &[u32], rows: &[u32]) -> Answer<Reply> {
@@ -170,12 +169,12 @@ fn violated_line(name: &Name, placement: &[u32]) -> String {
 }
 
 /// A log that is refused, in check and in search.
-pub fn refused(opened: &Opened, form: Form, is_one: bool, log: &Input, refusal: Refusal) -> Answer<Reply> {
+pub fn refused(opened: &Opened, command: Command, form: Form, is_one: bool, log: &Input, refusal: Refusal) -> Answer<Reply> {
     let refused = Refused::of_both(&opened.input, log, refusal)?;
     let text = match form {
         Form::Words if is_one => refused.whole(),
         Form::Words => refused.one_line(),
-        Form::Plain => format!("{:>3}{:>3}\n", refused.number(), 0),
+        Form::Plain => refused_columns(command, refusal),
         Form::Json => refused_object(Some(&log.name), &opened.input.name, &refused),
     };
     Ok(Reply::new(Standing::Refused, text))
@@ -187,7 +186,7 @@ pub fn unreadable(opened: &Opened, form: Form, name: &Name, sentence: String) ->
         Form::Words | Form::Plain => String::new(),
         Form::Json => {
             let object = named(Some(name), &opened.input.name).text("verdict", "unreadable").raw("refusal", "null");
-            object.text("error", &sentence).end() + "\n"
+            no_facts(object).text("error", &sentence).end() + "\n"
         }
     };
     Reply::complaint(Standing::NotRead, text, sentence)

@@ -17,6 +17,7 @@ mod logs;
 mod names;
 mod nearest;
 mod number;
+mod numbered;
 mod opened;
 mod order;
 mod output;

@@ -5,8 +5,10 @@ use crate::input::{read, Identity, Input};
 use crate::json::Object;
 use crate::names::Name;
 use crate::output::{complain, Output};
+use crate::placed::in_object;
 use crate::refusal::Refused;
 use crate::sheet::Sheet;
+use crate::violation::rows_in_object;
 use satskhubo_interface::answer::{read_sheet, Answer, Refusal, SheetRead};
 
 pub struct Opened {
@@ -61,13 +63,20 @@ fn sheet_refused(input: &Input, refusal: Refusal, asked: &Asked) -> Answer<Strin
     let refused = Refused::of_sheet(input, refusal)?;
     Ok(match (asked.form, asked.command) {
         (Form::Words, _) => refused.whole(),
-        (Form::Plain, Command::Check) => format!("{:>3}{:>3}\n", refused.number(), 0),
-        (Form::Plain, Command::Antiscenarios | Command::Search | Command::Explain) => format!("{:>3}\n", refused.number()),
+        (Form::Plain, command) => refused_columns(command, refusal),
         (Form::Json, _) => {
             let file = if let [log] = &asked.logs[..] { Some(log) } else { None };
             refused_object(file, &input.name, &refused)
         }
     })
+}
+
+/// Document 01's columns have a verdict behind the refusal, which is then 0.
+pub fn refused_columns(command: Command, refusal: Refusal) -> String {
+    match command {
+        Command::Check => format!("{:>3}{:>3}\n", refusal.number(), 0),
+        Command::Antiscenarios | Command::Search | Command::Explain => format!("{:>3}\n", refusal.number()),
+    }
 }
 
 /// The log's name, or null, and the sheet's.
@@ -81,5 +90,10 @@ pub fn named(file: Option<&Name>, sheet: &Name) -> Object {
 
 pub fn refused_object(file: Option<&Name>, sheet: &Name, refused: &Refused) -> String {
     let object = named(file, sheet).text("verdict", "refused").number("refusal", refused.number());
-    refused.in_object(object).end() + "\n"
+    refused.in_object(no_facts(object)).end() + "\n"
+}
+
+/// The facts of a verdict, where there is none.
+pub fn no_facts(object: Object) -> Object {
+    rows_in_object(in_object(object, &[]), &[])
 }
