@@ -135,6 +135,9 @@ impl Sorted {
             "--json" => self.json = true,
             "--help" => self.request = Some(Request::Help(Some(command))),
             "--version" => self.request = Some(Request::Version),
+            negative if negative[1..].bytes().all(|byte| byte.is_ascii_digit()) => {
+                return Err(format!("{shown} is neither an option nor a number; numbers are decimal digits and nothing else"));
+            }
             unknown => {
                 let nearest = nearest(unknown, &OPTIONS);
                 return Err(format!(

@@ -14,7 +14,7 @@ use crate::refusal::Refused;
 use crate::reply::{Reply, Reporter, Standing, Tally};
 use crate::sheet::{Kind, Row};
 use crate::violation::{rows_in_object, violation, Violation};
-use crate::words::{count, line};
+use crate::words::line;
 use satskhubo_interface::answer::{check, Answer, Refusal, Verdict};
 
 pub fn run(asked: &Asked, output: &mut Output) -> i32 {
@@ -32,15 +32,14 @@ pub fn run(asked: &Asked, output: &mut Output) -> i32 {
     let Reporter { tally, .. } = reporter;
     progress.end();
     if asked.form == Form::Words && !task.is_one {
-        output.say(&summary(&tally, logs.listed.len()));
+        output.say(&logs.counted(&summary(&tally)));
     }
     tally.status()
 }
 
-fn summary(tally: &Tally, logs: usize) -> String {
+fn summary(tally: &Tally) -> String {
     let Tally { clear, found, refused, not_read, .. } = tally;
-    let failed = tally.failures();
-    format!("{}: {clear} hold, {found} violated, {refused} refused, {not_read} not read{failed}\n", count(logs as u64, "log"))
+    format!("{clear} hold, {found} violated, {refused} refused, {not_read} not read{}", tally.failures())
 }
 
 struct Task {

@@ -1,7 +1,7 @@
 //! Which logs are meant: the files that are named, and all files below the folders that are named.
 use crate::input::Identity;
 use crate::names::Name;
-use crate::output::complain;
+use crate::words::count;
 use std::fs::{metadata, read_dir, DirEntry, Metadata};
 use std::io::Error;
 use std::os::unix::fs::MetadataExt;
@@ -16,6 +16,8 @@ pub enum Listed {
 pub struct Logs {
     pub listed: Vec<Listed>,
     pub has_folder: bool,
+    /// Links to folders below the folders that are named, which are not followed.
+    linked_folders: u64,
 }
 
 impl Logs {
@@ -36,6 +38,15 @@ impl Logs {
     /// There is one log and it was named itself.
     pub fn is_one(&self) -> bool {
         self.listed.len() == 1 && !self.has_folder
+    }
+
+    /// The logs counted, and what was left out, for a summary.
+    pub fn counted(&self, counts: &str) -> String {
+        let linked = match self.linked_folders {
+            0 => String::new(),
+            linked => format!("; {} not followed", count(linked, "linked folder")),
+        };
+        format!("{}: {counts}{linked}\n", count(self.listed.len() as u64, "log"))
     }
 
     fn add_given_folder(&mut self, name: &Name, left_out: &[Identity]) {
@@ -67,9 +78,7 @@ impl Logs {
         let name = Name::of_path(entry.path());
         let is_link = entry.file_type().is_ok_and(|found| found.is_symlink());
         match metadata(name.path()) {
-            Ok(found) if found.is_dir() && is_link => {
-                complain(&format!("{} is a link to a folder, and is not followed", name.words()));
-            }
+            Ok(found) if found.is_dir() && is_link => self.linked_folders += 1,
             Ok(found) if found.is_dir() => self.add_folder(&name, left_out),
             Ok(found) if found.is_file() => self.add_file(name, &found, left_out),
             Ok(_) => {

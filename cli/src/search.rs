@@ -13,7 +13,7 @@ use crate::placed::{in_object, placed};
 use crate::progress::Progress;
 use crate::reply::{Reply, Reporter, Standing, Tally};
 use crate::sheet::{Row, Sheet};
-use crate::words::{count, point};
+use crate::words::point;
 use satskhubo_interface::answer::{read_log, search, Answer, Failure, LogRead, Searched};
 use std::ops::RangeInclusive;
 
@@ -115,7 +115,7 @@ impl Task {
         let Reporter { tally, .. } = reporter;
         progress.end();
         if self.form == Form::Words {
-            output.say(&summary(&tally, logs.listed.len()));
+            output.say(&logs.counted(&summary(&tally)));
         }
         tally.status()
     }
@@ -200,13 +200,9 @@ fn plain(number: u64, matching: Option<&[u32]>) -> String {
     format!("{:>3}{number:>11}{:>3}{positions}\n", 0, u32::from(matching.is_some()))
 }
 
-fn summary(tally: &Tally, logs: usize) -> String {
+fn summary(tally: &Tally) -> String {
     let Tally { clear, found, refused, not_read, .. } = tally;
-    let failed = tally.failures();
-    format!(
-        "{}: found in {found}, nothing in {clear}, {refused} refused, {not_read} not read{failed}\n",
-        count(logs as u64, "log")
-    )
+    format!("found in {found}, nothing in {clear}, {refused} refused, {not_read} not read{}", tally.failures())
 }
 
 /// Says the parts of one log as they come.
