@@ -1,5 +1,8 @@
 //! What the tests share: a panic for a mismatch, and the count of comparisons told past the harness.
 #![allow(dead_code)]
+pub mod program;
+pub mod words;
+
 use satskhubo_tests::compare::{compare, Mismatch, Tally};
 use satskhubo_tests::generate::logs::log_of;
 use satskhubo_tests::generate::pairs::pair_of;
