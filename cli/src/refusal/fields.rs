@@ -3,10 +3,10 @@ use crate::columns::{self, LINE, LOG_FIRST, ROW, SHEET_FIRST};
 use crate::names;
 use satskhubo_interface::answer::{read_field, read_log, read_sheet, Answer, LogRead, SheetRead};
 
-const SHEET_FIRST_NAMES: [&str; 2] = ["number of consequents", "row count"];
-const LOG_FIRST_NAMES: [&str; 3] = ["line count", "start tick", "close tick"];
-const ROW_NAMES: [&str; 6] = ["section", "kind", "p", "q", "a", "b"];
-const LINE_NAMES: [&str; 2] = ["tick", "event"];
+const SHEET_FIRST_NAMES: [&str; 2] = ["the number of consequents", "the row count"];
+const LOG_FIRST_NAMES: [&str; 3] = ["the line count", "the start tick", "the close tick"];
+const ROW_NAMES: [&str; 6] = ["the section", "the kind", "p", "q", "a", "b"];
+const LINE_NAMES: [&str; 2] = ["the tick", "the event"];
 const SWAPPED: &str = "were sheet and log given in the wrong order?";
 
 pub fn sheet_first_line(text: &[u8]) -> Answer<Vec<String>> {
@@ -66,7 +66,7 @@ fn wrong_field(line: &[u8], widths: &[usize], names: &[&str]) -> Answer<Vec<Stri
         let Some(field) = line.get(at..at + width) else { return Ok(Vec::new()) };
         if read_field(field, width)?.is_none() {
             let (first, last, shown) = (at + 1, at + width, names::columns(field));
-            return Ok(vec![format!("the {name} (columns {first} to {last}) is `{shown}`: {}", malformed(field))]);
+            return Ok(vec![format!("{name} (columns {first} to {last}) is `{shown}`: {}", malformed(field))]);
         }
         at += width;
     }
