@@ -3,7 +3,9 @@ use crate::input::{read, Identity, Input};
 use crate::names::{printable, Name};
 use crate::number::number;
 use std::ffi::OsStr;
+use std::fs::{metadata, Metadata};
 use std::os::unix::ffi::OsStrExt;
+use std::os::unix::fs::MetadataExt;
 
 /// Document 01: events are 0 to 31.
 pub const LAST_EVENT: u64 = 31;
@@ -84,14 +86,14 @@ impl Events {
         }
     }
 
-    /// The names in the file asked for, or in the one beside the sheet where there is one.
-    pub fn of(asked: Option<&Name>, sheet: &Name) -> Result<Events, String> {
+    /// The names in the file asked for, or in the one beside the sheet where there is one, and where it is not the sheet.
+    pub fn of(asked: Option<&Name>, sheet: &Input) -> Result<Events, String> {
         if let Some(name) = asked {
             return Events::read(&read(name)?);
         }
-        let beside = sheet.path().with_file_name(BESIDE);
-        let is_file = std::fs::metadata(&beside).is_ok_and(|found| found.is_file());
-        if sheet.is_standard_input() || !is_file {
+        let beside = sheet.name.path().with_file_name(BESIDE);
+        let is_another = |found: Metadata| found.is_file() && sheet.identity != Some((found.dev(), found.ino()));
+        if sheet.name.is_standard_input() || !metadata(&beside).is_ok_and(is_another) {
             return Ok(Events::default());
         }
         let found = read(&Name::of_path(beside)).and_then(|file| Events::read(&file));

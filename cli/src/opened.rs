@@ -45,7 +45,9 @@ pub fn open(asked: &Asked, output: &mut Output) -> Option<Opened> {
 }
 
 fn read_both(asked: &Asked) -> Result<(Input, Events), String> {
-    Ok((read(&asked.sheet)?, Events::of(asked.events.as_ref(), &asked.sheet)?))
+    let sheet = read(&asked.sheet)?;
+    let events = Events::of(asked.events.as_ref(), &sheet)?;
+    Ok((sheet, events))
 }
 
 fn accepted(input: Input, events: Events, asked: &Asked, output: &mut Output) -> Answer<Option<Opened>> {

@@ -2,8 +2,13 @@
 use std::collections::BTreeMap;
 use std::num::NonZero;
 use std::sync::atomic::{AtomicUsize, Ordering};
-use std::sync::mpsc::{channel, Receiver, TryRecvError};
+use std::sync::mpsc::{sync_channel, Receiver, TryRecvError};
 use std::thread::{available_parallelism, scope, Builder};
+
+/// So many answers may wait to be taken, so that a slow reader of the output does not fill the memory.
+const MOST_WAITING: usize = 256;
+/// Many times what an operation of the library needs.
+const STACK: usize = 2 << 20;
 
 /// What is done with the answers, in order, and while there is none yet.
 pub trait Taker<A> {
@@ -15,7 +20,7 @@ pub trait Taker<A> {
 pub fn in_order<A: Send>(count: usize, work: impl Fn(usize) -> A + Sync, taker: &mut impl Taker<A>) {
     let cores = available_parallelism().map_or(1, NonZero::get).min(count);
     let next = AtomicUsize::new(0);
-    let (sender, receiver) = channel();
+    let (sender, receiver) = sync_channel(MOST_WAITING);
     let begun = scope(|threads| {
         let mut begun = 0;
         for _ in 0..cores {
@@ -26,7 +31,7 @@ pub fn in_order<A: Send>(count: usize, work: impl Fn(usize) -> A + Sync, taker: 
                     return;
                 }
             };
-            begun += usize::from(Builder::new().spawn_scoped(threads, worker).is_ok());
+            begun += usize::from(Builder::new().stack_size(STACK).spawn_scoped(threads, worker).is_ok());
         }
         drop(sender);
         if begun > 0 {

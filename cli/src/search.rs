@@ -5,6 +5,7 @@ use crate::input::{read, Input};
 use crate::json::numbers as json_numbers;
 use crate::log::Log;
 use crate::logs::{Listed, Logs};
+use crate::names::Name;
 use crate::numbered::{numbers, text};
 use crate::opened::{named, open, Opened};
 use crate::order::{in_order, Taker};
@@ -69,7 +70,7 @@ impl Task {
             Listed::Log(name) => (name, read(name)),
             Listed::Unreadable(name, sentence) => (name, Err(sentence.clone())),
         };
-        let input = read.map_err(|sentence| unreadable(&self.opened, self.form, name, sentence))?;
+        let input = read.map_err(|sentence| unreadable(&self.opened, self.form, name, with_hint(name, sentence)))?;
         let accepted = read_log(&input.bytes).and_then(|answer| match answer {
             LogRead::Lines(_) => Log::of(&input.bytes).map(Ok),
             LogRead::Refused(refusal) => refused(&self.opened, Command::Search, self.form, self.is_one, &input, refusal).map(Err),
@@ -191,6 +192,14 @@ impl Task {
         let object = object.raw("found", if matching.is_some() { "true" } else { "false" });
         let object = object.raw("points", &json_numbers(points.iter().map(|(_, row)| row.p)));
         Ok(in_object(object, &placed(&readied.log, positions)?).end() + "\n")
+    }
+}
+
+/// A number in the place of a log was once the antiscenario's.
+fn with_hint(name: &Name, sentence: String) -> String {
+    match name.words().bytes().all(|byte| byte.is_ascii_digit()) {
+        true => format!("{sentence} (the number of an antiscenario stands behind --number)"),
+        false => sentence,
     }
 }
 

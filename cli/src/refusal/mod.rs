@@ -153,7 +153,7 @@ fn shown<'a>(expected: Refusal, shown: Shown, sheet: &'a Input, log: &'a Input) 
 /// The refusal of an antiscenario's number.
 pub fn number_refused(number: u64, count: u64) -> String {
     match count {
-        0 => format!("{number} is refused, since this sheet has no antiscenarios"),
+        0 => format!("{number} is not the number of an antiscenario: this sheet has none"),
         _ => format!("{number} is not in 1 to {count}, the numbers of this sheet's antiscenarios"),
     }
 }

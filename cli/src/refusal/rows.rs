@@ -153,7 +153,7 @@ pub fn fields(sheet: &[u8], index: usize) -> Answer<Vec<String>> {
             Kind::Within | Kind::Outside => &[],
         };
         if let Some((field, value)) = unused.iter().find(|(_, value)| *value != 0) {
-            return Some(format!("{field} is {value}; kind {kind}, does not use it, so it is 0"));
+            return Some(format!("{field} is {value}; kind {kind}, does not use it, so 0 is due"));
         }
         match row.kind {
             Kind::Within | Kind::Outside => Some(format!("a is {}, above b, which is {}", row.a, row.b)),
@@ -165,8 +165,8 @@ pub fn fields(sheet: &[u8], index: usize) -> Answer<Vec<String>> {
 pub fn too_long(sheet: &[u8], index: usize) -> Answer<Vec<String>> {
     said(sheet, index, |row| {
         Some(match row.fields[0] {
-            0 => "the antecedent has more than 32 rows; at most 32 are allowed".to_string(),
-            section => format!("consequent {section} has more than 24 rows; at most 24 are allowed"),
+            0 => "the antecedent has more than the 32 rows that it may have".to_string(),
+            section => format!("section {section} has more than the 24 rows that a consequent may have"),
         })
     })
 }
