@@ -230,13 +230,17 @@ fn a_folder_is_all_files_below_it() {
     }
     symlink("b", folder.join("a-linked-folder")).unwrap();
     symlink("c", folder.join("linked")).unwrap();
-    let Said { status, out, err } = command(&["check", "--json", "sheet", "."]).current_dir(&folder).output().unwrap().into();
-    assert_eq!(err, "satskhubo: ./a-linked-folder is a link to a folder, and is not followed\n");
+    let Said { status, out, .. } = command(&["check", "--json", "sheet", "."]).current_dir(&folder).output().unwrap().into();
     let named =
         |object: &Json| format!("{} {}", object.get("file").text().trim_start_matches("./"), object.get("verdict").text());
     let said: Vec<String> = json::lines(&out).iter().map(named).collect();
     // The sheet and the events in use are no logs; a linked folder is not followed.
     assert_eq!((status, said.join("\n").as_str()), (1, "a holds\nb/a violated\nb/deep/z violated\nc holds\nlinked holds"));
+    let said: Said = command(&["check", "sheet", "."]).current_dir(&folder).output().unwrap().into();
+    assert!(
+        said.out.contains("5 logs: 3 hold, 2 violated, 0 refused, 0 not read") && said.out.contains("not followed"),
+        "{said:?}"
+    );
     let empty = scratch("folder-empty");
     let said = run(&[OsStr::new("check"), OsStr::new(SHEET), empty.as_os_str(), OsStr::new(KEPT)]);
     assert!(said.status == 2 && said.err.contains("no log in ") && said.out.ends_with("1 not read\n"), "{said:?}");
