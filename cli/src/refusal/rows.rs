@@ -2,6 +2,7 @@
 use crate::columns::{fields as fields_of, lines, ROW, SHEET_FIRST};
 use crate::denial;
 use crate::sheet::{Kind, Row, CLOSE, START};
+use crate::words::count;
 use satskhubo_interface::answer::Answer;
 
 /// A refused row, and the accepted ones before it.
@@ -33,7 +34,7 @@ pub fn section(sheet: &[u8], index: usize) -> Answer<Vec<String>> {
     said(sheet, index, |row| {
         let (section, consequents) = (row.fields[0], row.consequents);
         if section > consequents {
-            return Some(format!("the section is {section}, and the first line says {consequents} consequents"));
+            return Some(format!("the section is {section}, and the first line says {}", count(consequents, "consequent")));
         }
         let before = row.before.last()?.section;
         Some(format!("the section is {section}, below {before}, the section of the row before"))
