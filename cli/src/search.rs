@@ -65,6 +65,10 @@ impl Task {
         self.numbers.start() + index as u64
     }
 
+    fn failed(&self, name: &Name, failure: Failure) -> Reply {
+        failed(&self.opened, self.form, name, failure)
+    }
+
     fn readied(&self, listed: &Listed) -> Result<Readied, Reply> {
         let (name, read) = match listed {
             Listed::Log(name) => (name, read(name)),
@@ -75,14 +79,14 @@ impl Task {
             LogRead::Lines(_) => Log::of(&input.bytes).map(Ok),
             LogRead::Refused(refusal) => refused(&self.opened, Command::Search, self.form, self.is_one, &input, refusal).map(Err),
         });
-        let log = accepted.map_err(|failure| failed(name, failure.to_string()))??;
+        let log = accepted.map_err(|failure| self.failed(name, failure))??;
         Ok(Readied { input, log })
     }
 
     /// One log: the numbers on all cores.
     fn run_on_one(&self, listed: &Listed, output: &mut Output) -> i32 {
         let progress = Progress::new(self.total(), "numbers");
-        let mut parts = Parts { output, progress: &progress, found: 0, failures: Vec::new() };
+        let mut parts = Parts { output, progress: &progress, searched: 0, found: 0, failures: Vec::new() };
         let standing = match self.readied(listed) {
             Ok(readied) => {
                 let work = |index| {
@@ -100,7 +104,7 @@ impl Task {
         reporter.take(standing);
         let Reporter { tally, .. } = reporter;
         progress.end();
-        tally.status()
+        tally.status(1)
     }
 
     /// Several logs, on all cores: the numbers of each one after the other.
@@ -118,7 +122,7 @@ impl Task {
         if self.form == Form::Words {
             output.say(&logs.counted(&summary(&tally)));
         }
-        tally.status()
+        tally.status(logs.listed.len())
     }
 
     fn reply(&self, readied: &Readied) -> Reply {
@@ -130,7 +134,8 @@ impl Task {
                     found += usize::from(part.is_found);
                 }
                 Err(failure) => {
-                    return Reply { text: said, ..failed(&readied.input.name, failure.to_string()) };
+                    let reply = self.failed(&readied.input.name, failure);
+                    return Reply { text: said + &reply.text, ..reply };
                 }
             }
         }
@@ -218,15 +223,20 @@ fn summary(tally: &Tally) -> String {
 struct Parts<'a> {
     output: &'a mut Output,
     progress: &'a Progress,
+    searched: usize,
     found: usize,
-    failures: Vec<String>,
+    failures: Vec<Failure>,
 }
 
 impl Parts<'_> {
     /// What is said behind the last number.
     fn end(&mut self, task: &Task, readied: &Readied) -> Reply {
         if let Some(failure) = self.failures.first() {
-            return failed(&readied.input.name, failure.clone());
+            return task.failed(&readied.input.name, failure.clone());
+        }
+        if self.searched != task.total() {
+            let failure = Failure(format!("{} of {} numbers were searched", self.searched, task.total()));
+            return task.failed(&readied.input.name, failure);
         }
         let standing = if self.found > 0 { Standing::Found } else { Standing::Clear };
         Reply::new(standing, task.last_line(readied, self.found))
@@ -239,9 +249,10 @@ impl Taker<Answer<Part>> for Parts<'_> {
             Ok(part) => {
                 self.progress.wipe();
                 self.output.say(&part.text);
+                self.searched += 1;
                 self.found += usize::from(part.is_found);
             }
-            Err(failure) => self.failures.push(failure.to_string()),
+            Err(failure) => self.failures.push(failure),
         }
     }
 
