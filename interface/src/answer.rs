@@ -1,5 +1,5 @@
 //! The library's answers in types. Its numbers are taken apart here and nowhere else; one that it cannot give is a failure.
-use crate::{lent, Placement, MOST_ANTECEDENT_POINTS, MOST_CONSEQUENTS, MOST_POINTS, MOST_TEXT};
+use crate::{lent, Placement, MOST_ANTECEDENT_POINTS, MOST_CONSEQUENTS, MOST_LINE, MOST_POINTS, MOST_TEXT};
 use std::fmt::{Display, Formatter};
 use std::ops::Range;
 
@@ -128,11 +128,12 @@ pub enum Searched {
 #[derive(Clone, Debug, PartialEq, Eq)]
 pub enum Shown {
     NothingRefused,
-    /// Document 01: the line that the check's refusal is about, a part of the sheet or of the log.
+    /// Document 01: the line that the check's refusal is about, a part of the sheet or of the log: its place and its bytes.
     Line {
         refusal: Refusal,
         of_log: bool,
         part: Range<usize>,
+        bytes: Vec<u8>,
     },
 }
 
@@ -242,7 +243,20 @@ pub fn show(sheet: &[u8], log: &[u8]) -> Answer<Shown> {
     let Some(end) = offset.checked_add(length).filter(|&end| end <= text.len()) else {
         return Err(Failure(format!("{CALL} shows {length} bytes from {offset} on, where there are {}", text.len())));
     };
-    Ok(Shown::Line { refusal: refused, of_log, part: offset..end })
+    let bytes = line(sheet, log, refused)?;
+    Ok(Shown::Line { refusal: refused, of_log, part: offset..end, bytes })
+}
+
+/// The bytes of the line that a refusal is about.
+fn line(sheet: &[u8], log: &[u8], expected: Refusal) -> Answer<Vec<u8>> {
+    const CALL: &str = "satskhubo_line";
+    let (mut room, mut length) = ([0; MOST_LINE], usize::MAX);
+    let number = lent::line(sheet, log, &mut room, &mut length);
+    if number != expected.number() {
+        return Err(Failure(format!("{CALL} answered {number}, where {} is refused", expected.number())));
+    }
+    let written = room.get(..length).map(<[u8]>::to_vec);
+    written.ok_or_else(|| Failure(format!("{CALL} says {length} bytes where {MOST_LINE} were lent")))
 }
 
 /// The number in the first `width` bytes; none where they are not well formed, or fewer.

@@ -46,6 +46,10 @@ pub fn show(sheet: &[u8], log: &[u8], of_log: &mut u8, offset: &mut usize, lengt
     unsafe { satskhubo_show(sheet.as_ptr(), sheet.len(), log.as_ptr(), log.len(), of_log, offset, length) }
 }
 
+pub fn line(sheet: &[u8], log: &[u8], line: &mut [u8; MOST_LINE], length: &mut usize) -> u32 {
+    unsafe { satskhubo_line(sheet.as_ptr(), sheet.len(), log.as_ptr(), log.len(), line.as_mut_ptr(), length) }
+}
+
 pub fn read_field(text: &[u8], width: usize, value: &mut u32) -> u32 {
     unsafe { satskhubo_read_field(text.as_ptr(), text.len(), width, value) }
 }

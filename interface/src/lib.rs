@@ -6,6 +6,8 @@ pub mod lent;
 pub const MOST_POINTS: usize = 58;
 /// The most bytes that a written antiscenario has.
 pub const MOST_TEXT: usize = 3437;
+/// The most bytes that a line of a sheet or of a log has.
+pub const MOST_LINE: usize = 35;
 /// The most points of an antecedent, and the most consequents.
 pub const MOST_ANTECEDENT_POINTS: usize = 4;
 pub const MOST_CONSEQUENTS: usize = 6;
@@ -66,6 +68,14 @@ extern "C" {
         log_len: usize,
         of_log: *mut bool,
         offset: *mut usize,
+        length: *mut usize,
+    ) -> u32;
+    fn satskhubo_line(
+        sheet: *const u8,
+        sheet_len: usize,
+        log: *const u8,
+        log_len: usize,
+        line: *mut u8,
         length: *mut usize,
     ) -> u32;
     fn satskhubo_read_field(text: *const u8, text_len: usize, width: usize, value: *mut u32) -> u32;

@@ -1,6 +1,6 @@
 //! The C interface as the bench host calls it, behind wrappers that lend patterned memory and give all of it back.
 use crate::outcome::*;
-use satskhubo_interface::{lent, Placement, MOST_ANTECEDENT_POINTS, MOST_CONSEQUENTS};
+use satskhubo_interface::{lent, Placement, MOST_ANTECEDENT_POINTS, MOST_CONSEQUENTS, MOST_LINE};
 
 /// The proved code, called as the bench host calls it.
 pub struct Host;
@@ -68,6 +68,13 @@ impl Side for Host {
         let (mut offset, mut length) = (PATTERN_SIZE, PATTERN_SIZE);
         let answer = lent::show(sheet, log, &mut of_log, &mut offset, &mut length);
         Shown { answer, of_log, offset, length }
+    }
+
+    fn line(&self, sheet: &[u8], log: &[u8]) -> LineShown {
+        let mut line = guarded(MOST_LINE, PATTERN);
+        let mut length = PATTERN_SIZE;
+        let answer = lent::line(sheet, log, lent_array(&mut line), &mut length);
+        LineShown { answer, line, length }
     }
 }
 

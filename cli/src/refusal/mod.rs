@@ -18,6 +18,8 @@ pub struct Refused<'a> {
     refusal: Refusal,
     of_log: bool,
     part: Range<usize>,
+    /// The bytes of that part, as the library hands them back.
+    line: Vec<u8>,
     text: &'a Input,
 }
 
@@ -32,11 +34,6 @@ impl<'a> Refused<'a> {
 
     pub fn number(&self) -> u32 {
         self.refusal.number()
-    }
-
-    /// The bytes of the line that the refusal is about.
-    fn shown_bytes(&self) -> &[u8] {
-        &self.text.bytes[self.part.clone()]
     }
 
     /// The row or the line that the refusal is about, from 0; none where it is the whole text or its first line.
@@ -78,7 +75,7 @@ impl<'a> Refused<'a> {
             (Refusal::SheetFirstLine, _) => fields::sheet_first_line(bytes),
             (Refusal::SheetCounts, _) => fields::sheet_counts(bytes),
             (Refusal::SheetLength, _) => lengths::of_sheet(self.text),
-            (Refusal::RowMalformed, _) => fields::row(self.shown_bytes()),
+            (Refusal::RowMalformed, _) => fields::row(&self.line),
             (Refusal::Section, index) => rows::section(bytes, index),
             (Refusal::Kind, index) => rows::kind(bytes, index),
             (Refusal::PointP, index) => rows::point_p(bytes, index),
@@ -89,7 +86,7 @@ impl<'a> Refused<'a> {
             (Refusal::LogFirstLine, _) => fields::log_first_line(bytes),
             (Refusal::LineCount, _) => fields::line_count(bytes),
             (Refusal::LogLength, _) => lengths::of_log(self.text),
-            (Refusal::LineMalformed, _) => fields::line(self.shown_bytes()),
+            (Refusal::LineMalformed, _) => fields::line(&self.line),
             (Refusal::Event, index) => lines::event(bytes, index),
             (Refusal::Tick, index) => lines::tick(bytes, index),
             (Refusal::Close, _) => lines::close(bytes),
@@ -114,8 +111,7 @@ impl<'a> Refused<'a> {
             (Some(index), false) => format!(", row {}, line {} of the file", index + 1, self.file_line()),
         };
         let mut said = format!("refused {}: the {noun} {}{place}\n", self.number(), self.text.name.words());
-        let shown = self.shown_bytes();
-        let shown = shown.strip_suffix(b"\n").unwrap_or(shown);
+        let shown = self.line.strip_suffix(b"\n").unwrap_or(&self.line);
         if !shown.is_empty() {
             said.push_str(&format!("  [{}]\n", columns(shown)));
         }
@@ -140,8 +136,8 @@ impl<'a> Refused<'a> {
 /// The line of a refusal; what the library shows is of the same refusal.
 fn shown<'a>(expected: Refusal, shown: Shown, sheet: &'a Input, log: &'a Input) -> Answer<Refused<'a>> {
     match shown {
-        Shown::Line { refusal, of_log, part } if refusal == expected => {
-            Ok(Refused { refusal, of_log, part, text: if of_log { log } else { sheet } })
+        Shown::Line { refusal, of_log, part, bytes } if refusal == expected => {
+            Ok(Refused { refusal, of_log, part, line: bytes, text: if of_log { log } else { sheet } })
         }
         Shown::Line { refusal, .. } => {
             Err(Failure(format!("refused {}, and the line of refusal {} is shown", expected.number(), refusal.number())))
