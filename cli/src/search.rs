@@ -31,7 +31,7 @@ pub fn run(asked: &Asked, output: &mut Output) -> i32 {
     let logs = Logs::of(&asked.logs, &opened.left_out());
     let task = Task { opened, form: asked.form, is_one: logs.is_one(), numbers };
     match &logs.listed[..] {
-        [listed] => task.run_on_one(listed, output),
+        [listed] => task.run_on_one(listed, &logs, output),
         _ => task.run_on_several(&logs, output),
     }
 }
@@ -84,27 +84,30 @@ impl Task {
     }
 
     /// One log: the numbers on all cores.
-    fn run_on_one(&self, listed: &Listed, output: &mut Output) -> i32 {
+    fn run_on_one(&self, listed: &Listed, logs: &Logs, output: &mut Output) -> i32 {
         let progress = Progress::new(self.total(), "numbers");
-        let mut parts = Parts { output, progress: &progress, searched: 0, found: 0, failures: Vec::new() };
-        let standing = match self.readied(listed) {
-            Ok(readied) => {
-                let work = |index| {
-                    let part = self.part(&readied, self.number(index));
-                    progress.step();
-                    part
-                };
-                in_order(self.total(), work, &mut parts);
-                parts.end(self, &readied)
-            }
-            Err(reply) => reply,
-        };
-        let Parts { output, .. } = parts;
+        let reply = self.reply_in_parts(listed, output, &progress);
         let mut reporter = Reporter { output, progress: &progress, tally: Tally::default() };
-        reporter.take(standing);
+        reporter.take(reply);
         let Reporter { tally, .. } = reporter;
         progress.end();
-        tally.status(1)
+        self.end(logs, &tally, output)
+    }
+
+    /// Says the parts as they come; the reply is what stands behind them.
+    fn reply_in_parts(&self, listed: &Listed, output: &mut Output, progress: &Progress) -> Reply {
+        let readied = match self.readied(listed) {
+            Ok(readied) => readied,
+            Err(reply) => return reply,
+        };
+        let mut parts = Parts { output, progress, searched: 0, found: 0, failures: Vec::new() };
+        let work = |index| {
+            let part = self.part(&readied, self.number(index));
+            progress.step();
+            part
+        };
+        in_order(self.total(), work, &mut parts);
+        parts.end(self, &readied)
     }
 
     /// Several logs, on all cores: the numbers of each one after the other.
@@ -119,8 +122,13 @@ impl Task {
         in_order(logs.listed.len(), work, &mut reporter);
         let Reporter { tally, .. } = reporter;
         progress.end();
-        if self.form == Form::Words {
-            output.say(&logs.counted(&summary(&tally)));
+        self.end(logs, &tally, output)
+    }
+
+    /// The summary of several logs, or of a folder, and the exit status.
+    fn end(&self, logs: &Logs, tally: &Tally, output: &mut Output) -> i32 {
+        if self.form == Form::Words && !self.is_one {
+            output.say(&logs.counted(&summary(tally)));
         }
         tally.status(logs.listed.len())
     }
