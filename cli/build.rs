@@ -16,7 +16,7 @@ fn commit(top: &Path) -> Option<String> {
         return None;
     }
     let commit = said("git", &["rev-parse", "--short", "HEAD"], top)?;
-    let changes = said("git", &["status", "--porcelain", "--untracked-files=no"], top)?;
+    let changes = said("git", &["--no-optional-locks", "status", "--porcelain", "--untracked-files=no"], top)?;
     Some(if changes.is_empty() { commit } else { format!("{commit}, changed") })
 }
 

@@ -15,7 +15,7 @@ use crate::reply::{Reply, Reporter, Standing, Tally};
 use crate::sheet::{Kind, Row};
 use crate::violation::{rows_in_object, violation, Violation};
 use crate::words::line;
-use satskhubo_interface::answer::{check, Answer, Refusal, Verdict};
+use satskhubo_interface::answer::{check, Answer, Failure, Refusal, Verdict};
 
 pub fn run(asked: &Asked, output: &mut Output) -> i32 {
     let Some(opened) = open(asked, output) else { return FAILED };
@@ -34,7 +34,7 @@ pub fn run(asked: &Asked, output: &mut Output) -> i32 {
     if asked.form == Form::Words && !task.is_one {
         output.say(&logs.counted(&summary(&tally)));
     }
-    tally.status()
+    tally.status(logs.listed.len())
 }
 
 fn summary(tally: &Tally) -> String {
@@ -59,7 +59,7 @@ impl Task {
             Err(sentence) => return unreadable(&self.opened, self.form, name, sentence),
         };
         let reply = check(&self.opened.input.bytes, &log.bytes).and_then(|verdict| self.answer(&log, verdict));
-        reply.unwrap_or_else(|failure| failed(name, failure.to_string()))
+        reply.unwrap_or_else(|failure| failed(&self.opened, self.form, name, failure))
     }
 
     fn answer(&self, log: &Input, verdict: Verdict) -> Answer<Reply> {
@@ -181,16 +181,22 @@ pub fn refused(opened: &Opened, command: Command, form: Form, is_one: bool, log:
 
 /// A log that cannot be read, in check and in search.
 pub fn unreadable(opened: &Opened, form: Form, name: &Name, sentence: String) -> Reply {
-    let text = match form {
-        Form::Words | Form::Plain => String::new(),
-        Form::Json => {
-            let object = named(Some(name), &opened.input.name).text("verdict", "unreadable").raw("refusal", "null");
-            no_facts(object).text("error", &sentence).end() + "\n"
-        }
-    };
-    Reply::complaint(Standing::NotRead, text, sentence)
+    Reply::complaint(Standing::NotRead, without_verdict(opened, form, name, "unreadable", &sentence), sentence)
 }
 
-pub fn failed(name: &Name, sentence: String) -> Reply {
-    Reply::complaint(Standing::Failed, String::new(), format!("{}: {sentence}", name.words()))
+/// A log on which the program failed, in check and in search.
+pub fn failed(opened: &Opened, form: Form, name: &Name, failure: Failure) -> Reply {
+    let text = without_verdict(opened, form, name, "failed", &failure.0);
+    Reply::complaint(Standing::Failed, text, format!("{}: {failure}", name.words()))
+}
+
+/// In JSON each log has an object; in words and in columns only an answer stands on standard output.
+fn without_verdict(opened: &Opened, form: Form, name: &Name, verdict: &str, error: &str) -> String {
+    match form {
+        Form::Words | Form::Plain => String::new(),
+        Form::Json => {
+            let object = named(Some(name), &opened.input.name).text("verdict", verdict).raw("refusal", "null");
+            no_facts(object).text("error", error).end() + "\n"
+        }
+    }
 }

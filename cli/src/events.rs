@@ -97,7 +97,9 @@ impl Events {
             return Ok(Events::default());
         }
         let found = read(&Name::of_path(beside)).and_then(|file| Events::read(&file));
-        found.map_err(|sentence| format!("{sentence} (the file stands beside the sheet; --events names another)"))
+        found.map_err(|sentence| {
+            format!("{sentence} (the file stands beside the sheet; --events names another, and --events /dev/null none)")
+        })
     }
 
     fn read(file: &Input) -> Result<Events, String> {

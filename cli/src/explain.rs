@@ -24,6 +24,9 @@ fn in_words(opened: &Opened) -> String {
     for section in 0..=sheet.consequents {
         said.push_str(&section_in_words(opened, section));
     }
+    if sheet.consequents == 0 {
+        said.push_str("no consequent: every matching of the antecedent is violating\n");
+    }
     said
 }
 

@@ -56,9 +56,9 @@ impl Tally {
         self.incomplete += usize::from(reply.is_incomplete);
     }
 
-    /// What went wrong comes before what was found.
-    pub fn status(&self) -> i32 {
-        if self.refused + self.not_read + self.failed + self.incomplete > 0 {
+    /// The exit status for so many logs: what went wrong, or was never answered, comes before what was found.
+    pub fn status(&self, logs: usize) -> i32 {
+        if self.clear + self.found != logs || self.incomplete > 0 {
             return FAILED;
         }
         i32::from(self.found > 0)

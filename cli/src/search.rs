@@ -31,7 +31,7 @@ pub fn run(asked: &Asked, output: &mut Output) -> i32 {
     let logs = Logs::of(&asked.logs, &opened.left_out());
     let task = Task { opened, form: asked.form, is_one: logs.is_one(), numbers };
     match &logs.listed[..] {
-        [listed] => task.run_on_one(listed, output),
+        [listed] => task.run_on_one(listed, &logs, output),
         _ => task.run_on_several(&logs, output),
     }
 }
@@ -65,6 +65,10 @@ impl Task {
         self.numbers.start() + index as u64
     }
 
+    fn failed(&self, name: &Name, failure: Failure) -> Reply {
+        failed(&self.opened, self.form, name, failure)
+    }
+
     fn readied(&self, listed: &Listed) -> Result<Readied, Reply> {
         let (name, read) = match listed {
             Listed::Log(name) => (name, read(name)),
@@ -75,32 +79,35 @@ impl Task {
             LogRead::Lines(_) => Log::of(&input.bytes).map(Ok),
             LogRead::Refused(refusal) => refused(&self.opened, Command::Search, self.form, self.is_one, &input, refusal).map(Err),
         });
-        let log = accepted.map_err(|failure| failed(name, failure.to_string()))??;
+        let log = accepted.map_err(|failure| self.failed(name, failure))??;
         Ok(Readied { input, log })
     }
 
     /// One log: the numbers on all cores.
-    fn run_on_one(&self, listed: &Listed, output: &mut Output) -> i32 {
+    fn run_on_one(&self, listed: &Listed, logs: &Logs, output: &mut Output) -> i32 {
         let progress = Progress::new(self.total(), "numbers");
-        let mut parts = Parts { output, progress: &progress, found: 0, failures: Vec::new() };
-        let standing = match self.readied(listed) {
-            Ok(readied) => {
-                let work = |index| {
-                    let part = self.part(&readied, self.number(index));
-                    progress.step();
-                    part
-                };
-                in_order(self.total(), work, &mut parts);
-                parts.end(self, &readied)
-            }
-            Err(reply) => reply,
-        };
-        let Parts { output, .. } = parts;
+        let reply = self.reply_in_parts(listed, output, &progress);
         let mut reporter = Reporter { output, progress: &progress, tally: Tally::default() };
-        reporter.take(standing);
+        reporter.take(reply);
         let Reporter { tally, .. } = reporter;
         progress.end();
-        tally.status()
+        self.end(logs, &tally, output)
+    }
+
+    /// Says the parts as they come; the reply is what stands behind them.
+    fn reply_in_parts(&self, listed: &Listed, output: &mut Output, progress: &Progress) -> Reply {
+        let readied = match self.readied(listed) {
+            Ok(readied) => readied,
+            Err(reply) => return reply,
+        };
+        let mut parts = Parts { output, progress, searched: 0, found: 0, failures: Vec::new() };
+        let work = |index| {
+            let part = self.part(&readied, self.number(index));
+            progress.step();
+            part
+        };
+        in_order(self.total(), work, &mut parts);
+        parts.end(self, &readied)
     }
 
     /// Several logs, on all cores: the numbers of each one after the other.
@@ -115,10 +122,15 @@ impl Task {
         in_order(logs.listed.len(), work, &mut reporter);
         let Reporter { tally, .. } = reporter;
         progress.end();
-        if self.form == Form::Words {
-            output.say(&logs.counted(&summary(&tally)));
+        self.end(logs, &tally, output)
+    }
+
+    /// The summary of several logs, or of a folder, and the exit status.
+    fn end(&self, logs: &Logs, tally: &Tally, output: &mut Output) -> i32 {
+        if self.form == Form::Words && !self.is_one {
+            output.say(&logs.counted(&summary(tally)));
         }
-        tally.status()
+        tally.status(logs.listed.len())
     }
 
     fn reply(&self, readied: &Readied) -> Reply {
@@ -130,7 +142,8 @@ impl Task {
                     found += usize::from(part.is_found);
                 }
                 Err(failure) => {
-                    return Reply { text: said, ..failed(&readied.input.name, failure.to_string()) };
+                    let reply = self.failed(&readied.input.name, failure);
+                    return Reply { text: said + &reply.text, ..reply };
                 }
             }
         }
@@ -218,15 +231,20 @@ fn summary(tally: &Tally) -> String {
 struct Parts<'a> {
     output: &'a mut Output,
     progress: &'a Progress,
+    searched: usize,
     found: usize,
-    failures: Vec<String>,
+    failures: Vec<Failure>,
 }
 
 impl Parts<'_> {
     /// What is said behind the last number.
     fn end(&mut self, task: &Task, readied: &Readied) -> Reply {
         if let Some(failure) = self.failures.first() {
-            return failed(&readied.input.name, failure.clone());
+            return task.failed(&readied.input.name, failure.clone());
+        }
+        if self.searched != task.total() {
+            let failure = Failure(format!("{} of {} numbers were searched", self.searched, task.total()));
+            return task.failed(&readied.input.name, failure);
         }
         let standing = if self.found > 0 { Standing::Found } else { Standing::Clear };
         Reply::new(standing, task.last_line(readied, self.found))
@@ -239,9 +257,10 @@ impl Taker<Answer<Part>> for Parts<'_> {
             Ok(part) => {
                 self.progress.wipe();
                 self.output.say(&part.text);
+                self.searched += 1;
                 self.found += usize::from(part.is_found);
             }
-            Err(failure) => self.failures.push(failure.to_string()),
+            Err(failure) => self.failures.push(failure),
         }
     }
 
