@@ -126,8 +126,8 @@ impl Sorted {
         rest: &mut impl Iterator<Item = &'a OsString>,
     ) -> Result<(), String> {
         let (name, value) = split(word);
-        let name = name.to_string_lossy();
         let shown = printable(name.as_bytes());
+        let name = name.to_string_lossy();
         match name.as_ref() {
             "--events" => return keep(&mut self.events, &name, value.or_else(|| rest.next().map(OsString::as_os_str))),
             "--number" => return keep(&mut self.number, &name, value.or_else(|| rest.next().map(OsString::as_os_str))),
