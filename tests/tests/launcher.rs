@@ -338,7 +338,7 @@ fn ctrl_c_ends_the_whole_build() {
         let output = run.wait_with_output().unwrap();
         assert_eq!(output.status.signal(), Some(number), "{output:?}");
         until("what rt had started ends", || ended(child.trim_end()).then_some(()));
-        assert!(shell("flock -n target/build.lock true", &tree.top).status.success(), "the lock is free");
+        until("the lock is free", || shell("flock -n target/build.lock true", &tree.top).status.success().then_some(()));
         for file in ["meanwhile", "held", "calls"] {
             fs::remove_file(tree.path(file)).unwrap();
         }

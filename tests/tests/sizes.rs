@@ -1,5 +1,7 @@
-//! Texts longer than the largest that are accepted: refused for their length and never cut, by the C interface and by document 01's program.
+//! Texts longer than the largest that are accepted: refused for their length and never cut, by the C interface, by document 01's
+//! program and by the people's.
 mod common;
+use common::program::{file, run};
 use common::{said, scratch, tell, top};
 use satskhubo_tests::generate::logs::uniform;
 use satskhubo_tests::generate::sheets::sheet_s;
@@ -31,12 +33,13 @@ fn further(unit: usize) -> [usize; 9] {
     [1, 2, unit - 1, unit, unit + 1, 10 * unit, 65_536 * unit, 65_536, 1 << 21]
 }
 
-/// Document 01's program on files `sheet` and `log`.
+/// Document 01's program on files `sheet` and `log`; the people's says the same.
 fn program(folder: &Path, sheet: &[u8], log: &[u8]) -> String {
-    std::fs::write(folder.join("sheet"), sheet).unwrap();
-    std::fs::write(folder.join("log"), log).unwrap();
+    let (sheet, log) = (file(folder, "sheet", sheet), file(folder, "log", log));
     let program = Command::new(top().join("target/bin/satskhubo")).current_dir(folder).output();
-    said(&program.expect("`rt check satskhubo` has built it"))
+    let said = said(&program.expect("`rt check satskhubo` has built it"));
+    assert_eq!(run(&["check", "--plain", &sheet, &log]).answer().1, said);
+    said
 }
 
 #[test]
@@ -52,7 +55,7 @@ fn sheets() {
         assert_eq!(Host.show(&sheet, &log), Shown { answer: 3, of_log: 0, offset: 0, length: 7 }, "{further} bytes more");
         assert_eq!(program(&folder, &sheet, &log), "  3  0\n", "{further} bytes more");
     }
-    tell("sizes: sheets", 4 * 9 + 2);
+    tell("sizes: sheets", 5 * 9 + 3);
 }
 
 #[test]
@@ -68,5 +71,5 @@ fn logs() {
         assert_eq!(Host.show(&sheet, &log), Shown { answer: 23, of_log: 1, offset: 0, length: 28 }, "{further} bytes more");
         assert_eq!(program(&folder, &sheet, &log), " 23  0\n", "{further} bytes more");
     }
-    tell("sizes: logs", 4 * 9 + 2);
+    tell("sizes: logs", 5 * 9 + 3);
 }
