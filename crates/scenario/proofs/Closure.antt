@@ -66,7 +66,7 @@ module _ (P : Row → Type 0) where
   picked-none-more x h (passed a p) = passed a (picked-none-more x h p)
 
   -- what is picked is determined
-  picked-once : {rows a b : List Row} → Picked P rows a → Picked P rows b → a ≡ b
+  pub picked-once : {rows a b : List Row} → Picked P rows a → Picked P rows b → a ≡ b
   picked-once done done = refl
   picked-once (taken {k} h p) (taken g q) = ap (λ (l : List Row). k ∷ l) (picked-once p q)
   picked-once (taken h p) (passed g q) = absurd (g h)
@@ -201,7 +201,7 @@ module _ (base : ℕ → Type 0) (r : ℕ) where
             (subst (λ (l : List Row). List·Memᴰ l (denials z r [] (o .front ++ (o .row ∷ o .back)))) (sym e) (denial-in [] (o .front) (o .row) (o .back) (o .own) (o .denying)))
 
 -- For a sheet that is read: the denials that consequent number i + 1 is chosen from.
-choices-at : (antecedent : List Row) (i : ℕ) (cs : List (List Row)) (n : ℕ) → n < length cs
+pub choices-at : (antecedent : List Row) (i : ℕ) (cs : List (List Row)) (n : ℕ) → n < length cs
     → getD (choices antecedent i cs) n [] ≡ denials (far-end antecedent (getD cs n [])) (10 * (i + n) + 9) [] (getD cs n [])
 unfolding choices
 choices-at antecedent i [] n h = absurd (omega arith)

@@ -69,6 +69,13 @@ no-lines = log 0 [] []
 injected : Log
 injected = log 300 (100 ∷ 200 ∷ 300 ∷ []) (2 ∷ 1 ∷ 3 ∷ [])
 
+-- a scan comes at most 100, or at most 200, after the start; and a log that starts at 1000
+soon : (limit : ℕ) → Sheet
+soon limit = record { antecedent = point 1 8 ∷ []; consequents = (within 0 1 0 limit ∷ []) ∷ [] }
+
+late-start : Log
+late-start = record { start = 1000; close = 1200; ticks = 1050 ∷ 1200 ∷ []; events = 3 ∷ 3 ∷ [] }
+
 -- What is asked, and the answer as lines of numbers
 
 data Question : Type 0 where
@@ -138,6 +145,9 @@ cases =
     ∷ is (check-of two-scans one-scan) ((1 ∷ []) ∷ (1 ∷ 1 ∷ []) ∷ (3 ∷ []) ∷ [])
     ∷ is (count-of (six four-denials)) ((4096 ∷ []) ∷ [])
     ∷ is (count-of (six five-denials)) ((5120 ∷ []) ∷ [])
+    ∷ is (check-of (soon 100) late-start) ((1 ∷ []) ∷ (2 ∷ []) ∷ (2 ∷ []) ∷ [])
+    ∷ is (search-of (soon 100) 1 late-start) ((2 ∷ []) ∷ [])
+    ∷ is (check-of (soon 200) late-start) ((0 ∷ []) ∷ [])
     ∷ is (rows-of two-by-two 2)
     ((0 ∷ 1 ∷ 1 ∷ 0 ∷ 8 ∷ 0 ∷ []) ∷ (0 ∷ 1 ∷ 2 ∷ 0 ∷ 8 ∷ 0 ∷ []) ∷ (1 ∷ 6 ∷ 2 ∷ 1 ∷ 0 ∷ 0 ∷ []) ∷ (2 ∷ 8 ∷ 2 ∷ 1 ∷ 0 ∷ 0 ∷ []) ∷ [])
     ∷ is (count-of chained) ((5 ∷ []) ∷ [])
@@ -169,7 +179,7 @@ passes c = same-lines (answer (c .question)) (c .expected)
 -- Every case of the table is as document 01 says.
 examples : all passes cases ≡ true
 unfolding cases passes same-lines same-line is answer check-lines search-lines row-line S no-rows empty-consequent two-scans four-denials five-denials six two-by-two chained
-    log three-lines one-scan no-lines injected fields tagged written count chosen antiscenario choose flat total choices denials far-end denying-rows denying-free end
+    log three-lines one-scan no-lines injected soon late-start fields tagged written count chosen antiscenario choose flat total choices denials far-end denying-rows denying-free end
     closure brings elem complement smallest-matching check is-violating faults walk advance placing lowest-above highest-below least sweep
     matching all is-line meets env lookup points clear below between inSet hasAt tick nearAt
 examples = refl

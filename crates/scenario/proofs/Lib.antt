@@ -21,6 +21,7 @@ pub mod Reading
 pub mod Final
 -- What stands beside: denials, patterns, at most one extension, a search's steps, rows and numbers, and the paper's examples.
 pub mod Closure
+pub mod InOrder
 pub mod Patterns
 pub mod Unique
 pub mod Prefix

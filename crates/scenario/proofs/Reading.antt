@@ -16,7 +16,7 @@ use Rattle.scenario.proofs.Section.{Fits, Ready}
 use Rattle.scenario.proofs.Glue.{Home, Section, Sections}
 use Rattle.scenario.proofs.Agreement.{Base, is-start, is-close, is-antecedent, Sound}
 
-counted-in : (b : ℕ) (ps : List ℕ) → Counted b ps → (m : ℕ) → b < m → m ≤ b + length ps → T (elem m ps)
+pub counted-in : (b : ℕ) (ps : List ℕ) → Counted b ps → (m : ℕ) → b < m → m ≤ b + length ps → T (elem m ps)
 unfolding elem
 counted-in b [] c m l h = absurd (omega arith)
 counted-in b (p ∷ ps) c m l h = go (order m p) (λ k. counted-in (suc b) ps (c .1) m k (omega arith))
@@ -26,7 +26,7 @@ counted-in b (p ∷ ps) c m l h = go (order m p) (λ k. counted-in (suc b) ps (c
     go (level q) r = left (eqb m p) (elem m ps) (eq→eqb m p q)
     go (upper k) r = right (eqb m p) (elem m ps) (r (omega (arith, c .0)))
 
-counted-all : (b : ℕ) (ps : List ℕ) → Counted b ps → All (λ (p : ℕ). (b < p) × (p ≤ b + length ps)) ps
+pub counted-all : (b : ℕ) (ps : List ℕ) → Counted b ps → All (λ (p : ℕ). (b < p) × (p ≤ b + length ps)) ps
 counted-all b [] c = tt
 counted-all b (p ∷ ps) c = (omega (arith, c .0), all-map (λ q h. omega arith) ps (counted-all (suc b) ps (c .1)))
 

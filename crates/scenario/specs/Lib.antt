@@ -2,6 +2,7 @@
 pub mod Rows
 pub mod Log
 pub mod Denials
+pub mod DenialsInOrder
 pub mod Sheet
 pub mod Fields
 pub mod Walk

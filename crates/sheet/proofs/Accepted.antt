@@ -56,7 +56,7 @@ enter-section : (at : Stand) (s : ℕ) → enter at s .section ≡ s
 unfolding enter
 enter-section at s = if-section (eqb (at .section) s) at (stand s 0 (at .antecedent) 0) s (λ e. eqb-true (at .section) s e) refl
 
-enter-ante : (at : Stand) (s : ℕ) → enter at s .antecedent ≡ at .antecedent
+pub enter-ante : (at : Stand) (s : ℕ) → enter at s .antecedent ≡ at .antecedent
 unfolding enter
 enter-ante at s = go (eqb (at .section) s)
   where
@@ -68,7 +68,7 @@ pub enter-same : (at : Stand) (s : ℕ) → at .section ≡ s → enter at s ≡
 unfolding enter
 enter-same at s e = simp (eq-eqb (at .section) s e)
 
-enter-new : (at : Stand) (s : ℕ) → (at .section ≡ s → ⊥) → enter at s .own ≡ 0
+pub enter-new : (at : Stand) (s : ℕ) → (at .section ≡ s → ⊥) → enter at s .own ≡ 0
 unfolding enter
 enter-new at s e = simp (ne-eqb (at .section) s e)
 
@@ -92,7 +92,7 @@ pub record Fair (at : Stand) : Type 0 where
   pub own : at .own ≤ 8
   pub none : at .section ≡ 0 → at .own ≡ 0
 
-enter-own : (at : Stand) (s : ℕ) → at .own ≤ 8 → enter at s .own ≤ 8
+pub enter-own : (at : Stand) (s : ℕ) → at .own ≤ 8 → enter at s .own ≤ 8
 unfolding enter
 enter-own at s h = go (eqb (at .section) s)
   where
@@ -124,7 +124,7 @@ module _ (k : ℕ) (at : Stand) (l : Line) (P : Passes k at l) (z : l .section �
         (sym (ap₂ (λ (s : ℕ) (h : Stand). pFits (l .kind) s (h .antecedent) (h .own) (l .p)) z enter-0 ∙ ap (λ (o : ℕ). pFits (l .kind) 0 (at .antecedent) o (l .p)) (F .none here-0)) ∙ P .p)
         (sym (ap₂ (λ (s : ℕ) (h : Stand). qFits (l .kind) s (h .antecedent) (h .own) (l .p) (l .q) (l .a)) z enter-0 ∙ ap (λ (o : ℕ). qFits (l .kind) 0 (at .antecedent) o (l .p) (l .q) (l .a)) (F .none here-0)) ∙ P .q)
 
-  ante-after : after at l .antecedent ≡ length (introduced (rowIn l)) + at .antecedent
+  pub ante-after : after at l .antecedent ≡ length (introduced (rowIn l)) + at .antecedent
   unfolding after rowIn
   ante-after = ap (λ (h : Stand). advance h (l .kind) .antecedent) enter-0 ∙ ante-next at (l .p) (l .q) (l .a) (l .b) (l .kind) kind-0 .0
 
@@ -142,17 +142,17 @@ module _ (k : ℕ) (k6 : k ≤ 6) (at : Stand) (l : Line) (P : Passes k at l) (s
         (cons-row (l .section) (enter at (l .section) .antecedent) (enter at (l .section) .own) s1 (omega (arith, P .top)) (omega (arith, enter-ante at (l .section), F .antecedent))
         (enter-own at (l .section) (F .own)) (l .p) (l .q) (l .a) (l .b) fits (l .kind) (P .kind) (P .p) (P .q))
 
-  cons-ante : after at l .antecedent ≡ at .antecedent
+  pub cons-ante : after at l .antecedent ≡ at .antecedent
   unfolding after
   cons-ante = cons-next (enter at (l .section)) (l .p) (l .q) (l .a) (l .b) (l .section) s1 (l .kind) (P .kind) .0 ∙ enter-ante at (l .section)
 
-  cons-own : after at l .own ≡ length (introduced (rowIn l)) + enter at (l .section) .own
+  pub cons-own : after at l .own ≡ length (introduced (rowIn l)) + enter at (l .section) .own
   unfolding after rowIn
   cons-own = cons-next (enter at (l .section)) (l .p) (l .q) (l .a) (l .b) (l .section) s1 (l .kind) (P .kind) .1
 
 -- the bounds are kept
 module _ (k : ℕ) (k6 : k ≤ 6) (at : Stand) (l : Line) (P : Passes k at l) (F : Fair at) (fits : l .a ≤ 4294967295) where
-  fair-after : Fair (after at l)
+  pub fair-after : Fair (after at l)
   fair-after = go (order (l .section) 0)
     where
       go : Order (l .section) 0 → Fair (after at l)
@@ -297,10 +297,10 @@ module _ (k : ℕ) (k6 : k ≤ 6) (b : ℕ) where
           (ante-none (at .antecedent) b (F .antecedent))
 
 -- all sections
-fair-start : Fair start
+pub fair-start : Fair start
 fair-start = record { antecedent = omega arith; own = omega arith; none = λ e. refl }
 
-start-own : (i : ℕ) → enter start i .own ≡ 0
+pub start-own : (i : ℕ) → enter start i .own ≡ 0
 unfolding enter
 start-own i = go (eqb 0 i)
   where

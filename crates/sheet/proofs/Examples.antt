@@ -237,6 +237,12 @@ order-of-refusals =
     ∷ bytes (sheetText 1 (replicate 24 (whole 1))) 24 (sheetText 1 (replicate 24 (whole 1) ++ (six 1 9 0 99 1 1 ∷ []))) 9 25
     ∷ []
 
-pub the-table : all-told (first-line ++ (row-form ++ (point-p ++ (point-q ++ (fields-used ++ (room-and-count ++ order-of-refusals)))))) ≡ true
+abbrev table : List Case
+table = first-line ++ (row-form ++ (point-p ++ (point-q ++ (fields-used ++ (room-and-count ++ order-of-refusals)))))
+
+pub the-table-size : length table ≡ 108
+the-table-size = refl
+
+pub the-table : all-told table ≡ true
 unfolding answer taken closing headOf fieldAt numeral scan sheetText headText rowsText rowText spell left leftByte lastByte rowsFrom rowBytes lineOf refusal sectionFits refusalWithin kindFits pFits isDue ordinary known qFits originFits knownBut ordinaryBut bothOrdinary restFits setOnly bothZero roomFits enter advance after sheetOf section sections rowIn orSame rowOf count total choices denials denying-rows denying-free end far-end closure brings elem
 the-table = refl

@@ -11,4 +11,6 @@ pub mod Theorems
 pub mod Texts
 pub mod Values
 pub mod OneText
+pub mod Permits
+pub mod Valid
 pub mod Examples

@@ -67,7 +67,7 @@ module _ (s a c q other : ℕ) where
   unfolding bothOrdinary
   both-ordinary e = let b = both-true (ordinaryBut s a c q other) (ordinary s a c other) e in (ordinary-but (b .0), b .1)
 
-due-is : (f m n p : ℕ) → isDue f m n p ≡ true → (p ≡ f + n + 1) × (n < m)
+pub due-is : (f m n p : ℕ) → isDue f m n p ≡ true → (p ≡ f + n + 1) × (n < m)
 unfolding isDue
 due-is f m n p e = let b = both-true (ltb n m) (eqb p (f + n + 1)) e in (eqb-true p (f + n + 1) (b .1), ltb-true n m (b .0))
 

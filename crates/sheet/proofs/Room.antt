@@ -40,11 +40,11 @@ most-consequent i h = simp (ne-eqb i 0 (omega arith))
 
 -- the section's rows so far, where the reading stands
 
-enter-no-rows : (at : Stand) (s : ℕ) → (at .section ≡ s → ⊥) → enter at s .rows ≡ 0
+pub enter-no-rows : (at : Stand) (s : ℕ) → (at .section ≡ s → ⊥) → enter at s .rows ≡ 0
 unfolding enter
 enter-no-rows at s e = simp (ne-eqb (at .section) s e)
 
-start-no-rows : (i : ℕ) → enter start i .rows ≡ 0
+pub start-no-rows : (i : ℕ) → enter start i .rows ≡ 0
 unfolding enter
 start-no-rows i = go (eqb 0 i)
   where
@@ -52,7 +52,7 @@ start-no-rows i = go (eqb 0 i)
     go true = refl
     go false = refl
 
-after-rows : (at : Stand) (l : Line) → after at l .rows ≡ enter at (l .section) .rows + 1
+pub after-rows : (at : Stand) (l : Line) → after at l .rows ≡ enter at (l .section) .rows + 1
 unfolding after advance
 after-rows at l = go (enter at (l .section)) (eqb (l .kind) 1) (leb 2 (l .kind) && leb (l .kind) 5)
   where
