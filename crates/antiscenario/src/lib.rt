@@ -225,7 +225,7 @@ fn deny_line(line: sheet::Line, v: u64) -> sheet::Line
         10 => row(s, 11, p, q, line.a, line.b),
         11 => row(s, 10, p, q, line.a, line.b),
         12 => row(s, 12, p, 0, 4294967295 - line.a, 0),
-        _ => row(s, 7, 0, 0, 0, 0),
+        _ => row(s, 8, 0, 0, 0, 0),
     }
 }
 

@@ -3,14 +3,8 @@
 use mathlib.Core.List.{List, [], _∷_}
 use Prim.Native.Nat.{ℕ, zero, suc, _+_, _*_}
 use lib.ListN.{getD}
-use Rattle.scenario.specs.Rows.{Row, point, next, last, earlier, later, before, apart, same, free, within, outside, event, Env}
-
-unfoldable pub decode : (kind p q a b : ℕ) → Row
-decode kind p q a b =
-    getD
-    (apart 0 0 ∷ point p a ∷ next p q a ∷ last p q a ∷ earlier p q a ∷ later p q a ∷ before p q ∷ apart p q ∷ same p q ∷ free p q a
-    ∷ within p q a b ∷ outside p q a b ∷ event p a ∷ [])
-    kind (apart 0 0)
+use Rattle.scenario.specs.Rows.{Row, Env}
+use Rattle.scenario.specs.Fields.{decode}
 
 -- the environment that an array of positions by point number gives
 abbrev pub by : List ℕ → Env

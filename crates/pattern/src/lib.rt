@@ -10,7 +10,8 @@ ghost use Rattle.scenario.specs.Sheet.{all, matching};
 ghost use Rattle.scenario.specs.Reading.{Pattern};
 ghost use Rattle.runlog.specs.Held.{Events, Held, part, runAt, bare};
 ghost use Rattle.pattern.specs.Meeting.{placedBy, orderedBy};
-ghost use Rattle.pattern.specs.Decode.{decode, by, rowAt, rowsOf};
+ghost use Rattle.scenario.specs.Fields.{decode};
+ghost use Rattle.pattern.specs.Decode.{by, rowAt, rowsOf};
 ghost use Rattle.pattern.specs.Placing.{puts, isPosition};
 
 // Point numbers are below 100; "99 the close".

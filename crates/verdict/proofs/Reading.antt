@@ -2,25 +2,22 @@
 -- Assumes nothing.
 use mathlib.Core.Path.{_≡_, refl, sym, _∙_, ap, ap₂, subst}
 use mathlib.Core.List.{List, _∷_, map}
-use Prim.Native.Nat.{ℕ, zero, suc, _-_, _*_, _≤_}
+use Prim.Native.Nat.{ℕ, zero, suc, _-_, _≤_}
 use native.Mathlib.Omega.{arith}
-use lib.ListN.{length, getD, replicate}
+use lib.ListN.{length, replicate}
 use borrow.Author.Tests.{eq-eqb, ne-eqb}
-use Rattle.scenario.specs.Rows.{Row}
 use Rattle.scenario.specs.Log.{Log, runOf}
 use Rattle.scenario.specs.Sheet.{Sheet}
 use Rattle.scenario.specs.Search.{check}
-use Rattle.scenario.specs.Fields.{Fields, five, fields, Tagged, tagged}
-use Rattle.scenario.specs.Reading.{All, SheetRead}
-use Rattle.sheet.specs.declared.Line.{Line}
+use Rattle.scenario.specs.Fields.{Tagged, tagged}
+use Rattle.scenario.specs.Reading.{SheetRead}
 use Rattle.sheet.specs.Reading.{sheetIn, sheetOf, rowIn, taken as sheet-taken, answer as sheet-answer}
 use Rattle.sheet.specs.Memory.{lineIn, linesIn, lay as lay-rows}
 use Rattle.sheet.proofs.Theorems.{tag as tag-line, accepted-sheet, few-rows}
 use Rattle.runlog.specs.declared.Answer.{Answer}
 use Rattle.runlog.specs.Log.{answer}
 use Rattle.runlog.specs.Held.{Held, runAt, Loaded}
-use Rattle.pattern.specs.Decode.{decode, rowAt, listed}
-use Rattle.pattern.proofs.Rows.{decode-fields}
+use Rattle.pattern.specs.Decode.{rowAt, listed}
 use Rattle.verdict.specs.declared.Checked.{Checked}
 use Rattle.sheet.specs.declared.Answer.{Answer as SheetAnswer}
 use Rattle.verdict.specs.Check.{verdictOf, blank, checkOf, Accepted}
@@ -32,17 +29,11 @@ use Rattle.search.specs.Searching.{searchOf}
 
 -- The sheet
 
-row-one : (m : List ℕ) (j : ℕ) → fields (rowIn (lineIn m j)) ≡ five (lineIn m j .kind) (lineIn m j .p) (lineIn m j .q) (lineIn m j .a) (lineIn m j .b) → tagAt m j ≡ tag-line (lineIn m j)
-unfolding rowAt lineIn
-row-one m j e =
-    ap (λ (r : Row). record { section = getD m (6 * j) 0; row = r })
-    (sym (ap (λ (f : Fields). decode (f .kind) (f .p) (f .q) (f .a) (f .b)) e) ∙ decode-fields (rowIn (lineIn m j)))
-
-tags-lines : (m : List ℕ) (left j : ℕ) → All (λ (l : Line). fields (rowIn l) ≡ five (l .kind) (l .p) (l .q) (l .a) (l .b)) (linesIn m j left)
-    → listed (tagAt m) j left ≡ map tag-line (linesIn m j left)
-unfolding listed linesIn
-tags-lines m zero j a = refl
-tags-lines m (suc left) j a = ap₂ (λ (x : Tagged) (xs : List Tagged). x ∷ xs) (row-one m j (a .0)) (tags-lines m left (suc j) (a .1))
+-- rows in memory, with their sections, are those of its lines
+tags-lines : (m : List ℕ) (left j : ℕ) → listed (tagAt m) j left ≡ map tag-line (linesIn m j left)
+unfolding listed linesIn rowAt lineIn rowIn
+tags-lines m zero j = refl
+tags-lines m (suc left) j = ap (λ (xs : List Tagged). tagAt m j ∷ xs) (tags-lines m left (suc j))
 
 module _ (s : List ℕ) (e : sheet-answer s .refusal ≡ 0) (m₀ m : List ℕ) (room : 1056 ≤ length m₀) (em : m ≡ lay-rows 0 (sheet-taken s .lines) m₀) where
   lines-back : linesIn m 0 (sheet-answer s .rows) ≡ sheet-taken s .lines
@@ -53,10 +44,7 @@ module _ (s : List ℕ) (e : sheet-answer s .refusal ≡ 0) (m₀ m : List ℕ) 
 
   tags-are : tagsOf m (sheet-answer s .rows) ≡ tagged 0 (sheetIn s .antecedent ∷ sheetIn s .consequents)
   unfolding tagsOf
-  tags-are =
-      tags-lines m (sheet-answer s .rows) 0
-      (subst (All (λ (l : Line). fields (rowIn l) ≡ five (l .kind) (l .p) (l .q) (l .a) (l .b))) (sym lines-back) (accepted-sheet s e .numbers))
-      ∙ ap (map tag-line) lines-back ∙ sym (accepted-sheet s e .rows)
+  tags-are = tags-lines m (sheet-answer s .rows) 0 ∙ ap (map tag-line) lines-back ∙ sym (accepted-sheet s e .rows)
 
   pub sheet-held : SheetHeld m (sheet-answer s .rows) (sheet-answer s .k)
   sheet-held = record {

@@ -14,10 +14,10 @@ use borrow.Author.Tests.{eq-eqb, ne-eqb}
 use Rattle.scenario.specs.Rows.{Row, point, next, last, earlier, later, before, apart, same, free, within, outside, event, Run, meets, introduced}
 use Rattle.scenario.specs.Walk.{lowest-above, highest-below}
 use Rattle.scenario.specs.Log.{hasAt}
-use Rattle.scenario.specs.Fields.{Tagged}
+use Rattle.scenario.specs.Fields.{decode, Tagged}
 use Rattle.scenario.specs.Reading.{All}
 use Rattle.runlog.specs.Held.{Held, part, runAt, orZero}
-use Rattle.pattern.specs.Decode.{decode, by, rowAt, listed}
+use Rattle.pattern.specs.Decode.{by, rowAt, listed}
 use Rattle.runlog.proofs.Logs.{part-length}
 use Rattle.verdict.specs.Consequents.{ontoIn, stayIn, advanceIn, isSome, orKeep, tagAt, onward, faultIn, faulty, faultsIn}
 

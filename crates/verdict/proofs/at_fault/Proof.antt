@@ -11,7 +11,8 @@ use lib.ListN.{length, replicate, length-set}
 use borrow.Author.Tests.{not-true, not-false}
 use Rattle.runlog.specs.Held.{runAt}
 use Rattle.runlog.proofs.Logs.{seen-laws}
-use Rattle.pattern.specs.Decode.{decode, listed}
+use Rattle.scenario.specs.Fields.{decode}
+use Rattle.pattern.specs.Decode.{listed}
 use Rattle.verdict.specs.Consequents.{tagAt, tagsOf, faultIn, faultsIn, Kept}
 use Rattle.verdict.proofs.Steps.{fault-end, skip, stuck, passed, faults-end, faults-none, faults-on}
 use Rattle.verdict.proofs.Consequents.{kept-all, kept-on, fault-same, row-keeps}
