@@ -2,7 +2,7 @@
 -- Assumes nothing.
 use mathlib.Core.Path.{_≡_, refl, sym, ap, ap₂, _∙_, subst}
 use mathlib.Core.List.{List, [], _∷_, _++_, map}
-use Prim.Native.Nat.{ℕ, zero, suc, _+_, _*_, _-_, _≤_}
+use Prim.Native.Nat.{ℕ, suc, _+_, _*_, _-_, _≤_}
 use native.Mathlib.Omega.{arith}
 use lib.ListN.{length}
 use Rattle.scenario.specs.Rows.{Row, points}
@@ -13,20 +13,14 @@ use Rattle.scenario.proofs.Patterns.{antiscenario-pattern, antiscenario-few-poi
 use Rattle.sheet.specs.declared.Line.{Line}
 use Rattle.sheet.specs.declared.Answer.{Answer}
 use Rattle.sheet.specs.Reading.{sheetIn, countIn, rowIn, taken, answer}
-use Rattle.sheet.specs.Memory.{lay, lineIn, linesIn}
+use Rattle.sheet.specs.Memory.{lay, rowAt, rowsOf}
+use Rattle.sheet.proofs.Memory.{listed-lines}
 use Rattle.sheet.proofs.Theorems.{accepted-sheet}
-use Rattle.pattern.specs.Decode.{rowAt, listed, rowsOf}
 use Rattle.scenario.proofs.Numbers.{decode-fields}
 use Rattle.sheet.specs.Text.{numbersOf}
 use Rattle.antiscenario.specs.Build.{built}
 use Rattle.antiscenario.specs.Write.{writtenLines}
 use Rattle.antiscenario.proofs.Writing.{n-few, out-room, out-is}
-
--- rows in memory are those of its lines
-rows-lines : (m : List ℕ) (left j : ℕ) → listed (rowAt m) j left ≡ map rowIn (linesIn m j left)
-unfolding listed linesIn rowAt lineIn rowIn
-rows-lines m zero j = refl
-rows-lines m (suc left) j = ap (λ (rs : List Row). rowAt m j ∷ rs) (rows-lines m left (suc j))
 
 -- the rows of written lines are those that were written
 rows-append : (xs ys : List Row) (s : ℕ) (ts : List Line) → map rowIn ts ≡ ys → map rowIn (map numbersOf (map (λ (r : Row). record { section = s; row = r }) xs) ++ ts) ≡ xs ++ ys
@@ -53,8 +47,8 @@ rows-written sheet m = rows-tagged (sheet .antecedent ∷ chosen sheet m) 0
 module _ (s : List ℕ) (m : ℕ) (r : Answer) (e : r ≡ answer s) (z : r .refusal ≡ 0) (mem m₀ : List ℕ) (room : 1056 ≤ length m₀) (f : mem ≡ lay 0 (taken s .lines) m₀)
     (out o₀ : List ℕ) (n : ℕ) (big : 1200 ≤ length o₀) (g : n ≡ length (built mem (r .rows) (r .k) (m - 1))) (h : out ≡ lay 0 (built mem (r .rows) (r .k) (m - 1)) o₀) where
   pub rows-built : rowsOf out n ≡ antiscenario (sheetIn s) m
-  unfolding rowsOf writtenLines
-  rows-built = rows-lines out n 0 ∙ ap (map rowIn) (out-is s m r e z mem m₀ room f out o₀ n big g h) ∙ rows-written (sheetIn s) m
+  unfolding rowsOf rowAt writtenLines
+  rows-built = listed-lines rowIn out n 0 ∙ ap (map rowIn) (out-is s m r e z mem m₀ room f out o₀ n big g h) ∙ rows-written (sheetIn s) m
 
   pub rows-at-most : n ≤ 194
   rows-at-most = n-few s m r e z mem m₀ room f out o₀ n big g h

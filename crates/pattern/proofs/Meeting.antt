@@ -12,7 +12,7 @@ use Rattle.scenario.specs.Fields.{decode}
 use Rattle.scenario.proofs.Numbers.{unknown-unmet}
 use Rattle.runlog.specs.Held.{Held, part, runAt, bare, nearOf}
 use Rattle.pattern.specs.Meeting.{placedBy, orderedBy}
-use Rattle.pattern.specs.Decode.{by}
+use Rattle.pattern.specs.Placing.{by}
 use Rattle.runlog.proofs.Logs.{near-is}
 
 four : (P : ℕ → Type 0) → P 2 → P 3 → P 4 → P 5 → (k : ℕ) → 2 ≤ k → k ≤ 5 → P k

@@ -2,12 +2,12 @@
 -- Assumes nothing.
 use mathlib.Core.Path.{_≡_}
 use mathlib.Core.List.{List}
-use Prim.Native.Nat.{ℕ, _+_, _*_}
-use lib.ListN.{getD}
+use Prim.Native.Nat.{ℕ}
 use Rattle.scenario.specs.Fields.{decode}
-use Rattle.pattern.specs.Decode.{rowAt}
+use Rattle.sheet.specs.Reading.{rowIn}
+use Rattle.sheet.specs.Memory.{kindAt, pAt, qAt, aAt, bAt, lineIn, rowAt}
 
-pub row-is : (rows : List ℕ) (j k p q a a' b b' : ℕ) → k ≡ getD rows (6 * j + 1) 0 → p ≡ getD rows (6 * j + 2) 0 → q ≡ getD rows (6 * j + 3) 0
-    → a ≡ a' → a' ≡ getD rows (6 * j + 4) 0 → b ≡ b' → b' ≡ getD rows (6 * j + 5) 0 → decode k p q a b ≡ rowAt rows j
-unfolding rowAt
+pub row-is : (rows : List ℕ) (j k p q a a' b b' : ℕ) → k ≡ kindAt rows j → p ≡ pAt rows j → q ≡ qAt rows j → a ≡ a' → a' ≡ aAt rows j → b ≡ b' → b' ≡ bAt rows j
+    → decode k p q a b ≡ rowAt rows j
+unfolding rowAt rowIn lineIn
 row-is rows j k p q a a' b b' ek ep eq ea fa eb fb = rw (ek, ep, eq, ea, fa, eb, fb)
