@@ -17,7 +17,7 @@ use Rattle.sheet.specs.declared.Line.{Line}
 use Rattle.sheet.specs.Row.{refusal}
 use Rattle.sheet.specs.Reading.{rowIn, taken, answer}
 use Rattle.sheet.specs.Memory.{lay, lineIn, linesIn, weighLine, product}
-use Rattle.sheet.specs.Text.{Fits}
+use Rattle.sheet.specs.Text.{Fits, numbersOf}
 use Rattle.sheet.proofs.Theorems.{accepted-rows}
 use Rattle.antiscenario.specs.Build.{lineFrom, uses, marked, wanted, brought, own, denied, denialFrom, chosenFrom, ofSection, built}
 use Rattle.antiscenario.specs.Write.{writtenLines}
@@ -42,11 +42,11 @@ module _ (s z r : ℕ) (hs : s < 1000) (hz : z < 1000) (hr : r < 1000) where
   Own = All (All (λ (x : Row). Fits (lineFrom s x)))
 
   point-fits : (p a : ℕ) → p < 1000 → a ≤ 4294967295 → Fits (lineFrom s (point p a))
-  unfolding lineFrom fields
+  unfolding lineFrom numbersOf fields
   point-fits p a hp ha = record { section = hs; kind = omega arith; p = hp; q = omega arith; a = ha; b = omega arith }
 
   before-fits : (p q : ℕ) → p < 1000 → q < 1000 → Fits (lineFrom s (before p q))
-  unfolding lineFrom fields
+  unfolding lineFrom numbersOf fields
   before-fits p q hp hq = record { section = hs; kind = omega arith; p = hp; q = hq; a = omega arith; b = omega arith }
 
   free-fits : (p q a : ℕ) → p < 1000 → q < 1000 → a ≤ 4294967295 → (x y : End) → Own (denying-free r p q a x y)
@@ -62,7 +62,7 @@ module _ (s z r : ℕ) (hs : s < 1000) (hz : z < 1000) (hr : r < 1000) where
   free-fits p q a hp hq ha inner inner = ((point-fits r a hr ha, (before-fits p r hp hr, (before-fits r q hr hq, tt))), ((point-fits r a hr ha, (before-fits q r hq hr, (before-fits r p hr hp, tt))), tt))
 
   deny-fits : (x : Row) → FitsF (fields x) → Own (denying-rows z r x)
-  unfolding denying-rows fields lineFrom complement
+  unfolding denying-rows fields lineFrom numbersOf complement
   deny-fits (point p a) F = tt
   deny-fits (next p q a) F = ((record { section = hs; kind = omega arith; p = F .1; q = hz; a = F .2; b = omega arith }, tt), tt)
   deny-fits (last p q a) F = ((record { section = hs; kind = omega arith; p = hz; q = F .1; a = F .2; b = omega arith }, tt), tt)

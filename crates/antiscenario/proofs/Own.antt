@@ -9,13 +9,14 @@ use lib.ListN.{length, getD}
 use lib.Dec.{eqb}
 use borrow.Author.Tests.{eqb-true, eqb-false, eq-eqb, ne-eqb}
 use Rattle.scenario.specs.Rows.{denying-rows, denying-free, end, far-end, complement}
-use Rattle.scenario.specs.Fields.{fields, rowOf}
+use Rattle.scenario.specs.Fields.{fields, decode}
 use Rattle.sheet.specs.declared.Line.{Line}
 use Rattle.sheet.specs.Row.{six}
-use Rattle.sheet.specs.Reading.{rowIn, orSame}
+use Rattle.sheet.specs.Reading.{rowIn}
 use Rattle.sheet.specs.Memory.{put, lay, edge, weight, weightFree}
 use Rattle.sheet.proofs.Count.{weight-6, weight-low, weight-high}
-use Rattle.sheet.proofs.Denials.{any-kind}
+use Rattle.scenario.proofs.Numbers.{any-kind}
+use Rattle.sheet.specs.Text.{numbersOf}
 use Rattle.antiscenario.specs.Build.{own, lineFrom, beforeOf, insideOf}
 
 -- one denial has number 0
@@ -30,15 +31,15 @@ module _ (l : Line) (v : ℕ) (h : v < weight (l .kind) (l .p) (l .q)) where
   high k n m = only v (l .kind) (l .p) (l .q) h (weight-high (l .kind) (l .p) (l .q) k n m)
 
   pub own-2 : l .kind ≡ 2 → own l v ≡ six (l .section) 9 (l .q) 99 (l .a) 0 ∷ []
-  unfolding own rowIn orSame rowOf denying-rows far-end fields lineFrom
+  unfolding own rowIn decode denying-rows far-end fields lineFrom numbersOf
   own-2 e = let z = low (λ x. omega arith) (omega arith) in rw (e, z)
 
   pub own-3 : l .kind ≡ 3 → own l v ≡ six (l .section) 9 0 (l .q) (l .a) 0 ∷ []
-  unfolding own rowIn orSame rowOf denying-rows far-end fields lineFrom
+  unfolding own rowIn decode denying-rows far-end fields lineFrom numbersOf
   own-3 e = let z = low (λ x. omega arith) (omega arith) in rw (e, z)
 
   pub own-6 : l .kind ≡ 6 → own l v ≡ beforeOf (l .section) (l .p) (l .q) v ∷ []
-  unfolding own rowIn orSame rowOf denying-rows far-end fields lineFrom
+  unfolding own rowIn decode denying-rows far-end fields lineFrom numbersOf
   own-6 e = go v (subst (λ (w : ℕ). v < w) (sym (weight-6 (l .kind) (l .p) (l .q) e)) h)
     where
       go : (v : ℕ) → v < 2 → own l v ≡ beforeOf (l .section) (l .p) (l .q) v ∷ []
@@ -47,33 +48,33 @@ module _ (l : Line) (v : ℕ) (h : v < weight (l .kind) (l .p) (l .q)) where
       go (suc (suc v)) h = absurd (omega arith)
 
   pub own-7 : l .kind ≡ 7 → own l v ≡ six (l .section) 8 (l .p) (l .q) 0 0 ∷ []
-  unfolding own rowIn orSame rowOf denying-rows far-end fields lineFrom
+  unfolding own rowIn decode denying-rows far-end fields lineFrom numbersOf
   own-7 e = let z = high (omega arith) (λ x. omega arith) (λ x. omega arith) in rw (e, z)
 
   pub own-8 : l .kind ≡ 8 → own l v ≡ six (l .section) 7 (l .p) (l .q) 0 0 ∷ []
-  unfolding own rowIn orSame rowOf denying-rows far-end fields lineFrom
+  unfolding own rowIn decode denying-rows far-end fields lineFrom numbersOf
   own-8 e = let z = high (omega arith) (λ x. omega arith) (λ x. omega arith) in rw (e, z)
 
   pub own-10 : l .kind ≡ 10 → own l v ≡ six (l .section) 11 (l .p) (l .q) (l .a) (l .b) ∷ []
-  unfolding own rowIn orSame rowOf denying-rows far-end fields lineFrom
+  unfolding own rowIn decode denying-rows far-end fields lineFrom numbersOf
   own-10 e = let z = high (omega arith) (λ x. omega arith) (λ x. omega arith) in rw (e, z)
 
   pub own-11 : l .kind ≡ 11 → own l v ≡ six (l .section) 10 (l .p) (l .q) (l .a) (l .b) ∷ []
-  unfolding own rowIn orSame rowOf denying-rows far-end fields lineFrom
+  unfolding own rowIn decode denying-rows far-end fields lineFrom numbersOf
   own-11 e = let z = high (omega arith) (λ x. omega arith) (λ x. omega arith) in rw (e, z)
 
   pub own-12 : l .kind ≡ 12 → own l v ≡ six (l .section) 12 (l .p) 0 (4294967295 - l .a) 0 ∷ []
-  unfolding own rowIn orSame rowOf denying-rows far-end fields lineFrom complement
+  unfolding own rowIn decode denying-rows far-end fields lineFrom numbersOf complement
   own-12 e = let z = high (omega arith) (λ x. omega arith) (λ x. omega arith) in rw (e, z)
 
 -- kinds that no accepted row has, and those without denials
 module _ (s p q a b v : ℕ) where
   abbrev Other : ℕ → Type 0
   Other k = (k ≡ 2 → ⊥) → (k ≡ 3 → ⊥) → (k ≡ 6 → ⊥) → (k ≡ 7 → ⊥) → (k ≡ 8 → ⊥) → (k ≡ 9 → ⊥) → (k ≡ 10 → ⊥) → (k ≡ 11 → ⊥) → (k ≡ 12 → ⊥)
-      → v < weight k p q → own (six s k p q a b) v ≡ six s 7 0 0 0 0 ∷ []
+      → v < weight k p q → own (six s k p q a b) v ≡ six s 8 0 0 0 0 ∷ []
 
   other : (k : ℕ) → Other k
-  unfolding own rowIn orSame rowOf denying-rows far-end fields lineFrom weight
+  unfolding own rowIn decode denying-rows far-end fields lineFrom numbersOf weight
   other =
       any-kind Other
       (λ n2 n3 n6 n7 n8 n9 n10 n11 n12 h. let z : v ≡ 0 = omega arith in rw z)
@@ -93,7 +94,7 @@ module _ (s p q a b v : ℕ) where
       let z : v ≡ 0 = only v (suc (suc (suc (suc (suc (suc (suc (suc (suc (suc (suc (suc (suc k))))))))))))) p q h (weight-high (suc (suc (suc (suc (suc (suc (suc (suc (suc (suc (suc (suc (suc k))))))))))))) p q (omega arith) n6 n9) in rw z)
 
 pub own-other : (l : Line) (v : ℕ) → (l .kind ≡ 2 → ⊥) → (l .kind ≡ 3 → ⊥) → (l .kind ≡ 6 → ⊥) → (l .kind ≡ 7 → ⊥) → (l .kind ≡ 8 → ⊥) → (l .kind ≡ 9 → ⊥)
-    → (l .kind ≡ 10 → ⊥) → (l .kind ≡ 11 → ⊥) → (l .kind ≡ 12 → ⊥) → v < weight (l .kind) (l .p) (l .q) → own l v ≡ six (l .section) 7 0 0 0 0 ∷ []
+    → (l .kind ≡ 10 → ⊥) → (l .kind ≡ 11 → ⊥) → (l .kind ≡ 12 → ⊥) → v < weight (l .kind) (l .p) (l .q) → own l v ≡ six (l .section) 8 0 0 0 0 ∷ []
 own-other l v = other (l .section) (l .p) (l .q) (l .a) (l .b) v (l .kind)
 
 -- FREE
@@ -107,7 +108,7 @@ freeRows s r p q a v =
 module _ (s r p q a : ℕ) where
   free-go : (x y z w : Bool) → eqb p 0 ≡ x → eqb p 99 ≡ y → eqb q 0 ≡ z → eqb q 99 ≡ w → (v : ℕ) → v < weightFree p q
       → map (lineFrom s) (getD (denying-free r p q a (end p) (end q)) v []) ≡ freeRows s r p q a v
-  unfolding denying-free end weightFree edge lineFrom fields
+  unfolding denying-free end weightFree edge lineFrom numbersOf fields
   free-go true y true w ep fp eq fq v h = let e : weightFree p q ≡ 0 = rw (eqb-true p 0 ep, eqb-true q 0 eq) in absurd (omega arith)
   free-go true y false true ep fp eq fq zero h = rw (eqb-true p 0 ep, eqb-true q 99 fq)
   free-go true y false true ep fp eq fq (suc v) h = let e : weightFree p q ≡ 1 = rw (eqb-true p 0 ep, eqb-true q 99 fq) in absurd (omega arith)
@@ -127,7 +128,7 @@ module _ (s r p q a : ℕ) where
   free-go false false false false ep fp eq fq (suc (suc v)) h = let e : weightFree p q ≡ 2 = simp (ep, fp, eq, fq) in absurd (omega arith)
 
 pub own-9 : (l : Line) (v : ℕ) → l .kind ≡ 9 → v < weightFree (l .p) (l .q) → own l v ≡ freeRows (l .section) (10 * l .section + 9) (l .p) (l .q) (l .a) v
-unfolding own rowIn orSame rowOf denying-rows far-end
+unfolding own rowIn decode denying-rows far-end
 own-9 l v e h =
     rw e (free-go (l .section) (10 * l .section + 9) (l .p) (l .q) (l .a) (eqb (l .p) 0) (eqb (l .p) 99) (eqb (l .q) 0) (eqb (l .q) 99) refl refl refl refl v h)
 

@@ -7,18 +7,15 @@ use Prim.Native.Nat.{ℕ, zero, suc, _+_, _*_, _-_, _/_, _%_, _<_}
 use lib.ListN.{getD, set, replicate}
 use lib.Dec.{ltb, leb, eqb}
 use Rattle.scenario.specs.Rows.{Row, denying-rows, far-end}
-use Rattle.scenario.specs.Fields.{fields, Tagged}
 use Rattle.sheet.specs.declared.Line.{Line}
 use Rattle.sheet.specs.Row.{six}
 use Rattle.sheet.specs.Reading.{rowIn}
+use Rattle.sheet.specs.Text.{numbersOf}
 use Rattle.sheet.specs.Memory.{lineIn, linesIn, weighLine, product}
 
 -- a row's numbers, with its section
 unfoldable pub lineFrom : ℕ → Row → Line
-lineFrom s r = six s (fields r .kind) (fields r .p) (fields r .q) (fields r .a) (fields r .b)
-
-unfoldable pub taggedLine : Tagged → Line
-taggedLine t = lineFrom (t .section) (t .row)
+lineFrom s r = numbersOf (record { section = s; row = r })
 
 -- the points that a row uses, without the one it introduces, by its kind
 unfoldable pub uses : Line → List ℕ

@@ -12,7 +12,7 @@ use Rattle.scenario.specs.Reading.{Pattern}
 use Rattle.sheet.specs.Reading.{answer as sheet-answer, sheetIn, countIn}
 use Rattle.runlog.specs.Log.{answer as log-answer, runIn}
 use Rattle.runlog.specs.Held.{Held, runAt}
-use Rattle.pattern.specs.Decode.{rowsOf}
+use Rattle.sheet.specs.Memory.{rowsOf}
 use Rattle.antiscenario.specs.declared.Judged.{Judged}
 use Rattle.antiscenario.specs.Numbers.{no-such-number, wrong-number-of-positions}
 

@@ -6,7 +6,7 @@ ghost use Prim.Native.Nat.{ℕ, _+_, _*_, _-_, _≤_, _<_};
 ghost use lib.ListN.{length, getD, set, take, drop};
 ghost use lib.Dec.{eqb};
 ghost use Rattle.sheet.specs.Row.{six};
-ghost use Rattle.sheet.specs.Memory.{put, lay, lineIn, linesIn, weight, weightFree, weighLine, product};
+ghost use Rattle.sheet.specs.Memory.{lay, lineIn, linesIn, weight, weightFree, weighLine, product};
 ghost use Rattle.sheet.specs.Text.{Fits, rowText, rowsText, headText, sheetText};
 ghost use Rattle.antiscenario.specs.Write.{inked, noText, writeOf, afterWrite};
 ghost use Rattle.antiscenario.specs.Judge.{refusalOf, Ready, unjudged as unjudgedOf, judgeOf};
@@ -39,15 +39,6 @@ pub struct Written {
     pub length: usize,
 }
 
-// Stores v at index i, where there is one.
-fn store(m: &mut [u32], i: usize, v: u32)
-    ensures { λ _. ⌜ now (m .exit) ≡ set (now (m .entry)) i v ⌝ }
-{
-    if i < m.len() {
-        m[i] = v;
-    }
-}
-
 fn row(section: u32, kind: u32, p: u32, q: u32, a: u32, b: u32) -> sheet::Line
     ensures { λ r. ⌜ r ≡ six section kind p q a b ⌝ }
 {
@@ -61,32 +52,10 @@ fn row(section: u32, kind: u32, p: u32, q: u32, a: u32, b: u32) -> sheet::Line
     }
 }
 
-// Stores a row as number i, from 0.
-fn put_row(m: &mut [u32], i: usize, line: sheet::Line)
-    requires { ⌜ i ≤ 2000 ⌝ }
-    ensures { λ _. ⌜ now (m .exit) ≡ put i line (now (m .entry)) ⌝ }
-{
-    store(m, 6 * i, line.section);
-    store(m, 6 * i + 1, line.kind);
-    store(m, 6 * i + 2, line.p);
-    store(m, 6 * i + 3, line.q);
-    store(m, 6 * i + 4, line.a);
-    store(m, 6 * i + 5, line.b);
-}
-
-// Row number i, from 0.
-fn row_in(m: &[u32], i: usize) -> sheet::Line
-    requires { ⌜ 6 * i + 6 ≤ length (now m) ⌝ }
-    ensures { λ r. ⌜ r ≡ lineIn (now (m .entry)) i ⌝ }
-{
-    let at = 6 * i;
-    row(m[at], m[at + 1], m[at + 2], m[at + 3], m[at + 4], m[at + 5])
-}
-
 fn mark(marks: &mut [u32], p: u32)
     ensures { λ _. ⌜ now (marks .exit) ≡ set (now (marks .entry)) p 1 ⌝ }
 {
-    store(marks, p as usize, 1);
+    sheet::store(marks, p as usize, 1);
 }
 
 // Marks the points that a row uses, without the one it introduces.
@@ -140,7 +109,7 @@ fn first_of(rows: &[u32], n: usize, section: u32) -> usize
 {
     let mut i: usize = 0;
     while i < n {
-        if rows[6 * i] == section {
+        if sheet::section_of(rows, i) == section {
             return i;
         }
         i += 1;
@@ -157,7 +126,7 @@ fn last_wanted(rows: &[u32], from: usize, i: usize, section: u32, marks: &[u32])
 {
     let mut left = i;
     while from < left {
-        if is_wanted(marks, section, row_in(rows, left - 1)) {
+        if is_wanted(marks, section, sheet::line_at(rows, left - 1)) {
             return left;
         }
         left -= 1;
@@ -184,10 +153,10 @@ fn bring(
     if left == 0 {
         return at;
     }
-    let line = row_in(rows, left - 1);
+    let line = sheet::line_at(rows, left - 1);
     mark_uses(marks, line);
     let end = bring(rows, from, left - 1, section, marks, out, at);
-    put_row(out, end, line);
+    sheet::put_line(out, end, line);
     end + 1
 }
 
@@ -225,7 +194,7 @@ fn deny_line(line: sheet::Line, v: u64) -> sheet::Line
         10 => row(s, 11, p, q, line.a, line.b),
         11 => row(s, 10, p, q, line.a, line.b),
         12 => row(s, 12, p, 0, 4294967295 - line.a, 0),
-        _ => row(s, 7, 0, 0, 0, 0),
+        _ => row(s, 8, 0, 0, 0, 0),
     }
 }
 
@@ -249,25 +218,25 @@ fn deny_free(line: sheet::Line, v: u64, out: &mut [u32], at: usize) -> usize
     let p = line.p;
     let q = line.q;
     let r = 10 * s + 9;
-    put_row(out, at, row(s, 1, r, 0, line.a, 0));
+    sheet::put_line(out, at, row(s, 1, r, 0, line.a, 0));
     if sheet::is_edge(p) {
         if sheet::is_edge(q) {
             return at + 1;
         }
-        put_row(out, at + 1, inside(s, r, p, q));
+        sheet::put_line(out, at + 1, inside(s, r, p, q));
         return at + 2;
     }
     if sheet::is_edge(q) {
-        put_row(out, at + 1, inside(s, r, q, p));
+        sheet::put_line(out, at + 1, inside(s, r, q, p));
         return at + 2;
     }
     if v == 0 {
-        put_row(out, at + 1, before(s, p, r));
-        put_row(out, at + 2, before(s, r, q));
+        sheet::put_line(out, at + 1, before(s, p, r));
+        sheet::put_line(out, at + 2, before(s, r, q));
         return at + 3;
     }
-    put_row(out, at + 1, before(s, q, r));
-    put_row(out, at + 2, before(s, r, p));
+    sheet::put_line(out, at + 1, before(s, q, r));
+    sheet::put_line(out, at + 2, before(s, r, p));
     at + 3
 }
 
@@ -280,7 +249,7 @@ fn own_rows(line: sheet::Line, v: u64, out: &mut [u32], at: usize) -> usize
     if line.kind == 9 {
         return deny_free(line, v, out, at);
     }
-    put_row(out, at, deny_line(line, v));
+    sheet::put_line(out, at, deny_line(line, v));
     at + 1
 }
 
@@ -290,7 +259,7 @@ fn deny_row(rows: &[u32], from: usize, i: usize, v: u64, out: &mut [u32], at: us
     ensures ends { λ r. ⌜ r ≡ at + length (denied (now (rows .entry)) i v) ⌝ }
     ensures memory { λ r. ⌜ now (out .exit) ≡ lay at (denied (now (rows .entry)) i v) (now (out .entry)) ⌝ }
 {
-    let line = row_in(rows, i);
+    let line = sheet::line_at(rows, i);
     let mut marks = [0u32; 100];
     mark_uses(&mut marks, line);
     let end = bring(rows, from, i, line.section, &mut marks, out, at);
@@ -326,12 +295,12 @@ fn copy_section(rows: &[u32], n: usize, section: u32, out: &mut [u32]) -> usize
     let mut i: usize = 0;
     let mut at: usize = 0;
     while i < n {
-        let line = row_in(rows, i);
+        let line = sheet::line_at(rows, i);
         i += 1;
         if line.section != section {
             continue;
         }
-        put_row(out, at, line);
+        sheet::put_line(out, at, line);
         at += 1;
     }
     at
@@ -389,7 +358,7 @@ fn write_rows(buf: &mut [u8], rows: &[u32], n: usize)
 {
     let mut i: usize = 0;
     while i < n {
-        write_row(buf, 7 + 35 * i, row_in(rows, i));
+        write_row(buf, 7 + 35 * i, sheet::line_at(rows, i));
         i += 1;
     }
 }

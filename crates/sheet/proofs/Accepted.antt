@@ -9,14 +9,14 @@ use lib.ListN.{length, length-append}
 use lib.Dec.{eqb, leb}
 use borrow.Author.Tests.{eqb-true, leb-true, eq-eqb, ne-eqb}
 use Rattle.scenario.specs.Rows.{Row, introduced, needs, points}
-use Rattle.scenario.specs.Fields.{five, rowOf}
+use Rattle.scenario.specs.Fields.{decode}
 use Rattle.scenario.specs.Reading.{All, Seen, first, final, antecedent as seen-antecedent, own as seen-own, Counted, RowRead, RowsRead, SectionsRead, SheetRead}
 use Rattle.scenario.proofs.Base.{all-map, Order, lower, level, upper, order}
 use Rattle.scenario.proofs.Reading.{short}
 use Rattle.sheet.specs.declared.Line.{Line}
 use Rattle.sheet.specs.declared.Stand.{Stand}
 use Rattle.sheet.specs.Row.{stand, start, enter, advance, sectionFits, kindFits, pFits, qFits, restFits, roomFits, unless, refusalWithin, refusal}
-use Rattle.sheet.specs.Reading.{after, orSame, rowIn, section, sections, sheetOf}
+use Rattle.sheet.specs.Reading.{after, rowIn, section, sections, sheetOf}
 use Rattle.sheet.proofs.Points.{both-true, AnteRow, ante-row, cons-row, cons-next, ante-next}
 
 -- What a row that is not refused has passed
@@ -138,7 +138,7 @@ module _ (k : ℕ) (k6 : k ≤ 6) (at : Stand) (l : Line) (P : Passes k at l) (s
     cons-line : RowRead (at .antecedent) (l .section) (enter at (l .section) .own) (rowIn l)
     unfolding rowIn
     cons-line =
-        subst (λ (a : ℕ). RowRead a (l .section) (enter at (l .section) .own) (orSame (rowOf (five (l .kind) (l .p) (l .q) (l .a) (l .b))))) (enter-ante at (l .section))
+        subst (λ (a : ℕ). RowRead a (l .section) (enter at (l .section) .own) (decode (l .kind) (l .p) (l .q) (l .a) (l .b))) (enter-ante at (l .section))
         (cons-row (l .section) (enter at (l .section) .antecedent) (enter at (l .section) .own) s1 (omega (arith, P .top)) (omega (arith, enter-ante at (l .section), F .antecedent))
         (enter-own at (l .section) (F .own)) (l .p) (l .q) (l .a) (l .b) fits (l .kind) (P .kind) (P .p) (P .q))
 

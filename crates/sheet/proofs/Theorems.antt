@@ -29,7 +29,7 @@ use Rattle.sheet.specs.Text.{Fits, sheetText}
 use Rattle.sheet.proofs.Texts.{row-fits, text-only}
 use Rattle.sheet.proofs.Arms.{kind-low, kind-high}
 use Rattle.sheet.proofs.Points.{fields-back}
-use Rattle.sheet.proofs.Store.{head-good, rows-full, lines-back}
+use Rattle.sheet.proofs.Memory.{head-good, rows-full, lines-back}
 use Rattle.sheet.proofs.Accepted.{passes, after-section, Accepted, section-in, section-out, passed, sections-length, sheet-read}
 use Rattle.sheet.proofs.Room.{antecedent-room, consequents-room, count-most}
 

@@ -11,10 +11,8 @@ use Rattle.scenario.specs.Sheet.{Sheet}
 use Rattle.scenario.specs.Fields.{Tagged, tagged}
 use Rattle.scenario.specs.Reading.{SheetRead, Pattern}
 use Rattle.sheet.specs.Reading.{sheetOf}
-use Rattle.sheet.specs.Memory.{linesIn}
-use Rattle.pattern.specs.Decode.{rowsOf}
+use Rattle.sheet.specs.Memory.{linesIn, rowsOf, tagsOf}
 use Rattle.search.specs.Placing.{planOf, Planned}
-use Rattle.verdict.specs.Consequents.{tagsOf}
 
 -- the sheet whose rows are in memory
 abbrev pub sheetAt : (rows : List ℕ) (count k : ℕ) → Sheet

@@ -14,7 +14,7 @@ returns c =
     let a = c .before .before .before .before .before .before .before .before .before .before .args in
     done-one _ _ _ (c .before .before .before .before .before .before .before .row .result) _
     (free-1 (a .line) (a .v) (c .before .before .before .before .before .before .before .before .before .before .pre .2) (c .before .before .before .before .before .before .before .before .before .before .pre .0) (sym (c .before .before .before .is-edge .ensures) ∙ c .before .before .if1 .taken) (sym (c .before .is-edge2 .ensures) ∙ c .if2 .taken) ∙ ap (λ (x : Line). x ∷ []) (sym (c .before .before .before .before .before .before .before .row .ensures)))
-    (c .before .before .before .before .before .before .put-row .ensures)
+    (c .before .before .before .before .before .before .put-line .ensures)
 
 returns-2 : tie.Need-returns-2
 returns-2 c =
@@ -22,7 +22,7 @@ returns-2 c =
     done-two _ _ _ (c .before .before .before .before .before .before .before .before .before .before .before .before .row .result) (c .before .before .before .inside .result) _ _
     (free-2 (a .line) (a .v) (c .before .before .before .before .before .before .before .before .before .before .before .before .before .before .before .pre .2) (c .before .before .before .before .before .before .before .before .before .before .before .before .before .before .before .pre .0) (sym (c .before .before .before .before .before .before .before .before .is-edge .ensures) ∙ c .before .before .before .before .before .before .before .if1 .taken) (sym (c .before .before .before .before .before .before .is-edge2 .ensures) ∙ c .before .before .before .before .before .if2 .left)
     ∙ ap₂ (λ (x y : Line). x ∷ y ∷ []) (sym (c .before .before .before .before .before .before .before .before .before .before .before .before .row .ensures)) (sym (c .before .before .before .inside .ensures)))
-    (c .before .before .before .before .before .before .before .before .before .before .before .put-row .ensures) (c .before .before .put-row2 .ensures)
+    (c .before .before .before .before .before .before .before .before .before .before .before .put-line .ensures) (c .before .before .put-line2 .ensures)
 
 returns-3 : tie.Need-returns-3
 returns-3 c =
@@ -30,7 +30,7 @@ returns-3 c =
     done-two _ _ _ (c .before .before .before .before .before .before .before .before .before .before .before .before .row .result) (c .before .before .before .inside2 .result) _ _
     (free-3 (a .line) (a .v) (c .before .before .before .before .before .before .before .before .before .before .before .before .before .before .before .pre .2) (c .before .before .before .before .before .before .before .before .before .before .before .before .before .before .before .pre .0) (sym (c .before .before .before .before .before .before .before .before .is-edge .ensures) ∙ c .before .before .before .before .before .before .before .if1 .left) (sym (c .before .before .before .before .before .before .is-edge3 .ensures) ∙ c .before .before .before .before .before .if3 .taken)
     ∙ ap₂ (λ (x y : Line). x ∷ y ∷ []) (sym (c .before .before .before .before .before .before .before .before .before .before .before .before .row .ensures)) (sym (c .before .before .before .inside2 .ensures)))
-    (c .before .before .before .before .before .before .before .before .before .before .before .put-row .ensures) (c .before .before .put-row3 .ensures)
+    (c .before .before .before .before .before .before .before .before .before .before .before .put-line .ensures) (c .before .before .put-line3 .ensures)
 
 add-result-4 : tie.Need-add-result-4
 add-result-4 c = record { fits = omega (arith, c .before .before .before .before .before .before .before .before .before .before .before .before .before .before .before .before .before .before .before .before .before .pre) }
@@ -41,7 +41,7 @@ returns-4 c =
     done-three _ _ _ (c .before .before .before .before .before .before .before .before .before .before .before .before .before .before .before .before .before .before .row .result) (c .before .before .before .before .before .before .before .before .before2 .result) (c .before .before .before .before3 .result) _ _ _
     (free-4 (a .line) (a .v) (c .before .before .before .before .before .before .before .before .before .before .before .before .before .before .before .before .before .before .before .before .before .pre .2) (c .before .before .before .before .before .before .before .before .before .before .before .before .before .before .before .before .before .before .before .before .before .pre .0) (sym (c .before .before .before .before .before .before .before .before .before .before .before .before .before .before .is-edge .ensures) ∙ c .before .before .before .before .before .before .before .before .before .before .before .before .before .if1 .left) (sym (c .before .before .before .before .before .before .before .before .before .before .before .before .is-edge3 .ensures) ∙ c .before .before .before .before .before .before .before .before .before .before .before .if3 .left) (c .before .before .before .before .before .before .before .before .before .before .if4 .taken)
     ∙ ap₂ (λ (x : Line) (y : List Line). x ∷ y) (sym (c .before .before .before .before .before .before .before .before .before .before .before .before .before .before .before .before .before .before .row .ensures)) (ap₂ (λ (x y : Line). x ∷ y ∷ []) (sym (c .before .before .before .before .before .before .before .before .before2 .ensures)) (sym (c .before .before .before .before3 .ensures))))
-    (c .before .before .before .before .before .before .before .before .before .before .before .before .before .before .before .before .before .put-row .ensures) (c .before .before .before .before .before .before .before .put-row4 .ensures) (c .before .before .put-row5 .ensures)
+    (c .before .before .before .before .before .before .before .before .before .before .before .before .before .before .before .before .before .put-line .ensures) (c .before .before .before .before .before .before .before .put-line4 .ensures) (c .before .before .put-line5 .ensures)
 
 add-result-5 : tie.Need-add-result-5
 add-result-5 c = record { fits = omega (arith, c .before .before .before .before .before .before .before .before .before .before .before .before .before .before .before .before .before .before .before .before .before .pre) }
@@ -52,7 +52,7 @@ returns-5 c =
     done-three _ _ _ (c .before .before .before .before .before .before .before .before .before .before .before .before .before .before .before .before .before .before .row .result) (c .before .before .before .before .before .before .before .before .before4 .result) (c .before .before .before .before5 .result) _ _ _
     (free-5 (a .line) (a .v) (c .before .before .before .before .before .before .before .before .before .before .before .before .before .before .before .before .before .before .before .before .before .pre .2) (c .before .before .before .before .before .before .before .before .before .before .before .before .before .before .before .before .before .before .before .before .before .pre .0) (sym (c .before .before .before .before .before .before .before .before .before .before .before .before .before .before .is-edge .ensures) ∙ c .before .before .before .before .before .before .before .before .before .before .before .before .before .if1 .left) (sym (c .before .before .before .before .before .before .before .before .before .before .before .before .is-edge3 .ensures) ∙ c .before .before .before .before .before .before .before .before .before .before .before .if3 .left) (c .before .before .before .before .before .before .before .before .before .before .if4 .left)
     ∙ ap₂ (λ (x : Line) (y : List Line). x ∷ y) (sym (c .before .before .before .before .before .before .before .before .before .before .before .before .before .before .before .before .before .before .row .ensures)) (ap₂ (λ (x y : Line). x ∷ y ∷ []) (sym (c .before .before .before .before .before .before .before .before .before4 .ensures)) (sym (c .before .before .before .before5 .ensures))))
-    (c .before .before .before .before .before .before .before .before .before .before .before .before .before .before .before .before .before .put-row .ensures) (c .before .before .before .before .before .before .before .put-row6 .ensures) (c .before .before .put-row7 .ensures)
+    (c .before .before .before .before .before .before .before .before .before .before .before .before .before .before .before .before .before .put-line .ensures) (c .before .before .before .before .before .before .before .put-line6 .ensures) (c .before .before .put-line7 .ensures)
 
 pub deny-free-spec : {M : Type 1} → statement M
 deny-free-spec =

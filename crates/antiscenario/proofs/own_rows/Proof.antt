@@ -12,7 +12,7 @@ deny-free-requires : tie.Need-deny-free-requires
 deny-free-requires c κs = (subst (λ (w : ℕ). c .before .before .before .before .args .v < w) (sym (weight-9 _ _ _ (c .before .if1 .taken))) (c .before .before .before .before .pre .0), c .before .before .before .before .pre .1, c .before .if1 .taken, c .before .before .before .before .pre .2)
 
 returns-2 : tie.Need-returns-2
-returns-2 c = done-one _ _ _ (c .before .before .before .deny-line .result) _ (c .before .before .before .deny-line .ensures) (c .before .before .put-row .ensures)
+returns-2 c = done-one _ _ _ (c .before .before .before .deny-line .result) _ (c .before .before .before .deny-line .ensures) (c .before .before .put-line .ensures)
 
 pub own-rows-spec : {M : Type 1} → statement M
 own-rows-spec =

@@ -3,7 +3,7 @@
 use mathlib.Core.Path.{_≡_, refl, ap, ap₂, _∙_}
 use mathlib.Core.Logic.{_⊎_, inl, inr}
 use mathlib.Core.Bool.{Bool, true, false, cond, not}
-use mathlib.Core.List.{List, [], _∷_}
+use mathlib.Core.List.{List, [], _∷_, map}
 use Prim.Native.Nat.{ℕ, zero, suc, _+_, _*_, _≤_, _<_}
 use native.Mathlib.Omega.{arith}
 use lib.ListN.{length, getD, set, length-set, drop}
@@ -20,7 +20,7 @@ use Rattle.sheet.specs.declared.Parsed.{Parsed}
 use Rattle.sheet.specs.declared.Parsed.the-variants.{Row, Malformed}
 use Rattle.sheet.specs.Row.{lineOf, refusal}
 use Rattle.sheet.specs.Reading.{headed, onHead, headOf, Taken, stop, more, onLine, after, rowBytes, rowsFrom}
-use Rattle.sheet.specs.Memory.{put, lay, lineIn, linesIn}
+use Rattle.sheet.specs.Memory.{put, lay, lineIn, linesIn, listed}
 use Rattle.sheet.proofs.Loop.{put-length}
 
 -- The first line
@@ -223,3 +223,9 @@ pub lay-above : (i : ℕ) (ls : List Line) (m : List ℕ) (j : ℕ) → 6 * (i +
 unfolding lay
 lay-above i [] m j h = refl
 lay-above i (l ∷ ls) m j h = lay-above (suc i) ls (put i l m) j (omega arith) ∙ put-other i l m j (inr (omega arith))
+
+-- rows in memory, read one by one, are those of its lines
+pub listed-lines : {A : Type 0} (f : Line → A) (m : List ℕ) (left j : ℕ) → listed (λ (i : ℕ). f (lineIn m i)) j left ≡ map f (linesIn m j left)
+unfolding listed linesIn
+listed-lines f m zero j = refl
+listed-lines f m (suc left) j = ap (λ xs. f (lineIn m j) ∷ xs) (listed-lines f m left (suc j))
