@@ -32,7 +32,7 @@ use Rattle.sheet.proofs.Permits.{Found, tested, permitted, fitting, sti
 
 -- Rows, and their lines
 
-row-of : (t : Tagged) → rowIn (numbersOf t) ≡ t .row
+pub row-of : (t : Tagged) → rowIn (numbersOf t) ≡ t .row
 unfolding rowIn numbersOf orSame
 row-of t = ap orSame (row-back (t .row))
 
