@@ -3,17 +3,20 @@
 use mathlib.Core.Path.{_≡_}
 use mathlib.Core.Logic.{_↔_}
 use mathlib.Core.Bool.{true}
-use mathlib.Core.List.{List, _∷_, map}
-use Prim.Native.Nat.{ℕ, _≤_}
-use lib.ListN.{length, take}
+use mathlib.Core.List.{List, [], _∷_, map}
+use Prim.Native.Nat.{ℕ, _+_, _*_, _≤_, _<_}
+use lib.ListN.{length, getD, take}
 use lib.Dec.{T}
-use Rattle.scenario.specs.Rows.{points}
+use Rattle.scenario.specs.Rows.{Row, points, far-end}
+use Rattle.scenario.specs.DenialsInOrder.{DenialsOf}
 use Rattle.scenario.specs.Log.{Log}
 use Rattle.scenario.specs.Fields.{Tagged, tagged}
-use Rattle.scenario.specs.Sheet.{chosen, antiscenario, matching}
+use Rattle.scenario.specs.Sheet.{choices, chosen, antiscenario, matching}
+use Rattle.scenario.proofs.InOrder.{sheet-denials-in-order}
 use Rattle.sheet.specs.Reading.{answer, rowIn, sheetIn, countIn}
 use Rattle.sheet.specs.Text.{numbersOf}
 use Rattle.sheet.specs.Valid.{ValidSheet, ValidText as ValidSheetText}
+use Rattle.sheet.proofs.Theorems.{accepted-sheet}
 use Rattle.sheet.proofs.OneText.{Determined, determined}
 use Rattle.sheet.proofs.Valid.{accepted-valid as accepted-sheets, ReadAsValid, valid-read}
 use Rattle.runlog.specs.Log.{answer as log-answer, runIn}
@@ -53,6 +56,10 @@ pub record DemandTwo (s : List ℕ) (m : ℕ) : Type 0 where
   pub only : (t : List ℕ) → ReadsAs t (answer s .k) (writtenLines s m) → t ≡ writtenText s m
   -- the rows are "the antecedent's rows, then one denial for each consequent in order", "each with the section it came from",
   pub sections : writtenLines s m ≡ map numbersOf (tagged 0 (sheetIn s .antecedent ∷ chosen (sheetIn s) m))
+  -- chosen from the list of all denials of that consequent, which is document 01's: which they are, how many and in which order,
+  pub denials : (i : ℕ) → i < length (sheetIn s .consequents) → (ds : List (List Row))
+      → (ds ≡ getD (choices (sheetIn s .antecedent) 1 (sheetIn s .consequents)) i [])
+      ↔ DenialsOf (far-end (sheetIn s .antecedent) (getD (sheetIn s .consequents) i [])) (10 * (1 + i) + 9) [] (getD (sheetIn s .consequents) i []) ds
   -- and without the sections they are the antiscenario that the search, judging and demand 3 speak of;
   pub rows : map rowIn (writtenLines s m) ≡ antiscenario (sheetIn s) m
   -- "At most 58 points and 98 rows."
@@ -66,6 +73,7 @@ demand-two s accepted m = record {
   says = written-says s accepted m;
   only = written-only s accepted m;
   sections = written-sections s m;
+  denials = sheet-denials-in-order (sheetIn s) (accepted-sheet s accepted .read);
   rows = written-rows s m;
   few = written-few s accepted m;
   judged = λ l positions count log-accepted low high right. judge-says s l m positions count right accepted log-accepted low high;
