@@ -1,4 +1,4 @@
--- Antiscenario m in memory, as the code goes: rows by their numbers, six to a row.
+-- Antiscenario m in memory, as the code goes: rows by their numbers, six to a row. Inner vocabulary.
 -- Assumes nothing.
 use mathlib.Core.Path.{_≡_}
 use mathlib.Core.Bool.{Bool, cond, _&&_}

@@ -1,4 +1,4 @@
--- Judge a placement of antiscenario m: the answer, and what stands in memory before it is judged.
+-- Judge a placement of antiscenario m: the answer, and what stands in memory before it is judged. What must be believed.
 -- Assumes nothing.
 use mathlib.Core.Path.{_≡_}
 use mathlib.Core.Bool.{false, not, _&&_, cond}

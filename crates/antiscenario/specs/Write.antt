@@ -1,4 +1,4 @@
--- Write antiscenario m: its text, the answer, and what the buffer holds afterwards.
+-- Write antiscenario m: its text, the answer, and what the buffer holds afterwards. What must be believed.
 -- Assumes nothing.
 use mathlib.Core.Bool.{cond, _&&_}
 use mathlib.Core.List.{List, _++_, map}

@@ -1,4 +1,4 @@
--- Rows from their numbers: any numbers give a row, and an unknown kind gives one that is never met.
+-- Rows from their numbers: any numbers give a row, and an unknown kind gives one that is never met. Inner vocabulary.
 -- Assumes nothing.
 use mathlib.Core.List.{List, [], _∷_}
 use Prim.Native.Nat.{ℕ, zero, suc, _+_, _*_}

@@ -1,4 +1,4 @@
--- A log in memory: ticks by position (0 the start, n + 1 the close), events by position (index 0 is not used).
+-- A log in memory: ticks by position (0 the start, n + 1 the close), events by position (index 0 is not used). Inner vocabulary.
 -- Assumes nothing.
 use mathlib.Core.Path.{_≡_}
 use mathlib.Core.List.{List}

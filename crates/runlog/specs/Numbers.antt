@@ -1,4 +1,4 @@
--- Document 01's numbers for a log: its limits, and the refusals of "Read a log".
+-- Document 01's numbers for a log: its limits, and the refusals of "Read a log". What must be believed.
 -- Assumes nothing.
 use Prim.Native.Nat.{ℕ}
 

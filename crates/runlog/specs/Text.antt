@@ -1,4 +1,4 @@
--- The text of a log: the first line, and a line to a tick and its event. And which logs have a text that is accepted.
+-- The text of a log: the first line, and a line to a tick and its event. And which logs have a text that is accepted. What must be believed.
 -- Assumes nothing.
 use mathlib.Core.Path.{_≡_}
 use mathlib.Core.List.{List, [], _∷_, _++_}

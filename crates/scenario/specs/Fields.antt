@@ -1,4 +1,4 @@
--- A row's numbers, as a sheet has them, and the rows of an antiscenario with their sections, as it is written. Document 01, "Sheet" and "Antiscenarios".
+-- A row's numbers, as a sheet has them, and the rows of an antiscenario with their sections, as it is written. Document 01, "Sheet" and "Antiscenarios". What must be believed.
 -- Assumes nothing.
 use mathlib.Core.Option.{Option, none, some}
 use mathlib.Core.List.{List, [], _∷_, _++_, map}

@@ -1,4 +1,4 @@
--- What reading has checked of a sheet and of a log: all that demand 3 needs. And the patterns that a search takes.
+-- What reading has checked of a sheet and of a log: all that demand 3 needs. And the patterns that a search takes. What must be believed.
 -- Assumes nothing.
 use mathlib.Core.Path.{_≡_}
 use mathlib.Core.List.{List, [], _∷_, _++_}

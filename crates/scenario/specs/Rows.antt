@@ -1,4 +1,4 @@
--- Rows: their kinds, when a placement meets them, the points they introduce, and what denies them. Document 01, "Kinds of row" and "Antiscenarios".
+-- Rows: their kinds, when a placement meets them, the points they introduce, and what denies them. Document 01, "Kinds of row" and "Antiscenarios". What must be believed.
 -- Assumes nothing.
 use mathlib.Core.Bool.{Bool, false, not, _&&_, _||_, cond}
 use mathlib.Core.List.{List, [], _∷_, _++_, map}

@@ -1,4 +1,4 @@
--- Sheets: placements, matchings, when a sheet holds, antiscenarios and their numbers, the order of placements, and demand 3.
+-- Sheets: placements, matchings, when a sheet holds, antiscenarios and their numbers, the order of placements, and demand 3. What must be believed.
 -- Assumes nothing.
 use mathlib.Core.Path.{_≡_}
 use mathlib.Core.Logic.{_↔_}

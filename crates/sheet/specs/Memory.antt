@@ -1,4 +1,4 @@
--- Rows in memory, six numbers to a row, and N as a product over them.
+-- Rows in memory, six numbers to a row, and N as a product over them. Inner vocabulary.
 -- Assumes nothing.
 use mathlib.Core.Path.{_≡_}
 use mathlib.Core.Bool.{Bool, cond, _||_, _&&_}

@@ -1,4 +1,4 @@
--- "Read a sheet (gives N)" of document 01, from the bytes: first line, then row by row, last the count.
+-- "Read a sheet (gives N)" of document 01, from the bytes: first line, then row by row, last the count. What must be believed.
 -- Assumes nothing.
 use mathlib.Core.Bool.{not, cond}
 use mathlib.Core.List.{List, [], _∷_}

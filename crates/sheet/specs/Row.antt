@@ -1,4 +1,4 @@
--- One row of a sheet: its six numbers (refusal 4), and the refusals 5 to 10 in the order of document 01.
+-- One row of a sheet: its six numbers (refusal 4), and the refusals 5 to 10 in the order of document 01. What must be believed.
 -- Assumes nothing.
 use mathlib.Core.Bool.{Bool, true, not, _&&_, _||_, cond}
 use mathlib.Core.List.{List}

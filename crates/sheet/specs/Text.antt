@@ -1,4 +1,4 @@
--- The text of a sheet: "a sheet's first line (k, its row count) and rows".
+-- The text of a sheet: "a sheet's first line (k, its row count) and rows". What must be believed.
 -- Assumes nothing.
 use mathlib.Core.List.{List, [], _∷_, _++_, map}
 use Prim.Native.Nat.{ℕ, _≤_, _<_}

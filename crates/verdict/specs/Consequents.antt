@@ -1,4 +1,4 @@
--- The walk over a consequent as it goes: positions in an array by point number, rows in memory, six numbers to a row.
+-- The walk over a consequent as it goes: positions in an array by point number, rows in memory, six numbers to a row. Inner vocabulary.
 -- Assumes nothing.
 use mathlib.Core.Path.{_≡_}
 use mathlib.Core.Bool.{Bool, true, false, cond}

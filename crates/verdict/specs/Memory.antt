@@ -1,4 +1,4 @@
--- What the check has in memory: a sheet's rows, and what is prepared for going through the antecedent's matchings.
+-- What the check has in memory: a sheet's rows, and what is prepared for going through the antecedent's matchings. Inner vocabulary.
 -- Assumes nothing.
 use mathlib.Core.Path.{_≡_}
 use mathlib.Core.Bool.{cond}

@@ -1,4 +1,4 @@
--- Show the line: the bytes of the line that the check's refusal is about, a part of the sheet or of the log.
+-- Show the line: the bytes of the line that the check's refusal is about, a part of the sheet or of the log. What must be believed.
 -- Assumes nothing.
 use mathlib.Core.Bool.{Bool, true, false, not, cond, _&&_}
 use mathlib.Core.List.{List}
