@@ -98,11 +98,17 @@ fn ctrl_c_ends_it_and_leaves_nothing() {
         let before = listing(&folder);
         let mut child = command(&[task, &sheet, &log, &log, &log]);
         child.current_dir(&folder).env("TMPDIR", &folder).stdout(Stdio::piped()).stderr(Stdio::piped());
-        let child = child.spawn().unwrap();
+        let mut child = child.spawn().unwrap();
         until("it is at work", || (processor_ticks(child.id()) >= 3).then_some(()));
         assert!(Command::new("kill").args(["-s", signal, &child.id().to_string()]).status().unwrap().success());
+        let ended = (0..2000).any(|_| {
+            std::thread::sleep(std::time::Duration::from_millis(5));
+            child.try_wait().unwrap().is_some()
+        });
+        // By itself it would take years.
+        child.kill().unwrap();
         let output = child.wait_with_output().unwrap();
-        assert_eq!(output.status.signal(), Some(number), "{output:?}");
+        assert!(ended && output.status.signal() == Some(number), "{output:?}");
         assert_eq!((output.stdout.len(), output.stderr.len()), (0, 0), "{output:?}");
         assert_eq!(listing(&folder), before);
     }
