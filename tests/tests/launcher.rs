@@ -1,6 +1,6 @@
 //! ./satskhubo and build.sh in a small tree of their own, where `rt` and `cargo` are stand-ins that say when they are called.
 mod common;
-use common::{said, scratch, top, until};
+use common::{as_nobody, said, scratch, top, until, Public};
 use std::fs;
 use std::os::unix::fs::{symlink, PermissionsExt};
 use std::os::unix::process::{CommandExt, ExitStatusExt};
@@ -54,7 +54,10 @@ fn write(path: &Path, text: &str, mode: u32) {
 impl Tree {
     /// A tree with nothing built, in a folder with a blank and a line feed in its name.
     fn new(name: &str) -> Tree {
-        let room = scratch(name);
+        Tree::new_in(&scratch(name))
+    }
+
+    fn new_in(room: &Path) -> Tree {
         let tree = Tree { top: room.join("a tree\n"), tools: room.join("tools") };
         for file in ["satskhubo", "build.sh", "install.sh", "include/satskhubo.h", "docs/satskhubo.1"] {
             write(&tree.path(file), &fs::read_to_string(top().join(file)).unwrap(), 0o755);
@@ -307,34 +310,24 @@ fn ended(process: &str) -> bool {
     fs::read_to_string(format!("/proc/{process}/stat")).map_or(true, |stat| stat.contains(") Z "))
 }
 
-/// As a user for whom the tree cannot be written.
-fn as_nobody(tree: &Tree) -> Command {
-    let tree_command = tree.command();
-    let mut command = if said(&shell("id -u", Path::new("/"))) == "0\n" {
-        let mut nobody = Command::new("setpriv");
-        nobody.args(["--reuid=65534", "--regid=65534", "--clear-groups"]).arg(tree.path("satskhubo"));
-        nobody
-    } else {
-        Command::new(tree.path("satskhubo"))
-    };
-    for (name, value) in tree_command.get_envs() {
-        command.env(name, value.unwrap());
-    }
-    command
-}
-
 #[test]
 fn a_tree_that_cannot_be_written() {
-    let tree = Tree::built("launcher-read-only");
+    let room = Public::new("launcher");
+    let tree = Tree::new_in(&room.0);
+    let run_as_nobody = || {
+        let path = tree.command().get_envs().find_map(|(name, value)| value.filter(|_| name == "PATH")).unwrap().to_os_string();
+        as_nobody(&tree.path("satskhubo")).arg("word").env("PATH", path).output().unwrap()
+    };
     let lock = |mode: &str| assert!(shell(&format!("chmod -R {mode} ."), &tree.top).status.success());
+    tree.run_and_expect(7);
     // A change of mode is a change: built once more, so that nothing is newer. Other users can read.
     lock("a+rX");
     tree.run_and_expect(7);
     fs::set_permissions(&tree.top, fs::Permissions::from_mode(0o555)).unwrap();
-    let output = as_nobody(&tree).arg("word").output().unwrap();
+    let output = run_as_nobody();
     assert_eq!((output.status.code(), said(&output).as_str()), (Some(7), "[word]"), "{output:?}");
     lock("a-w");
-    let output = as_nobody(&tree).arg("word").output().unwrap();
+    let output = run_as_nobody();
     lock("u+w");
     let heard = String::from_utf8_lossy(&output.stderr).into_owned();
     assert_eq!((output.status.code(), said(&output).as_str()), (Some(2), ""), "{heard}");

@@ -2,7 +2,7 @@
 //! left behind and nothing is lost in silence.
 mod common;
 use common::program::{command, file, opened, plain_check, program, run, Said, KEPT, LOG, SHEET};
-use common::{scratch, until};
+use common::{as_nobody, scratch, until, Public};
 use satskhubo_tests::generate::logs::uniform;
 use satskhubo_tests::reference::sheet::{self, kind::*, Row};
 use std::fs::{self, File};
@@ -122,23 +122,19 @@ fn listing(folder: &Path) -> Vec<std::ffi::OsString> {
 
 #[test]
 fn a_folder_that_cannot_be_written_and_no_temporary_one() {
-    let folder = scratch("read-only");
+    let room = Public::new("read-only");
+    let (folder, copy) = (room.0.join("run"), room.0.join("satskhubo"));
+    fs::create_dir(&folder).unwrap();
+    fs::copy(program(), &copy).unwrap();
     for (name, from) in [("sheet", SHEET), ("log", LOG)] {
         fs::copy(common::top().join(from), folder.join(name)).unwrap();
+        fs::set_permissions(folder.join(name), fs::Permissions::from_mode(0o444)).unwrap();
     }
     fs::set_permissions(&folder, fs::Permissions::from_mode(0o555)).unwrap();
     let due = plain_check(&opened(&fs::read(folder.join("sheet")).unwrap(), &fs::read(folder.join("log")).unwrap()));
-    let is_root = unsafe { geteuid() } == 0;
-    let mut command = if is_root { Command::new("setpriv") } else { Command::new(program()) };
-    if is_root {
-        command.args(["--reuid=65534", "--regid=65534", "--clear-groups"]).arg(program());
-    }
+    let mut command = as_nobody(&copy);
     let output =
         command.args(["check", "--plain", "sheet", "log"]).current_dir(&folder).env("TMPDIR", "/no/such/folder").output();
     fs::set_permissions(&folder, fs::Permissions::from_mode(0o755)).unwrap();
     assert_eq!(Said::from(output.unwrap()).answer(), due);
-}
-
-extern "C" {
-    fn geteuid() -> u32;
 }
