@@ -9,11 +9,16 @@ archive=target/staticlib/libbench.a
 program=cli/target/release/satskhubo
 lock=target/build.lock
 log=target/build.log
+temporary=target/build.tmp
 # Neither another archive nor another place for what cargo makes.
 unset BENCH_ARCHIVE CARGO_TARGET_DIR CARGO_BUILD_TARGET_DIR CARGO_BUILD_TARGET
 
+# People read descriptor 3, where there is one to read; what shells and tools complain of goes to the log, once there is one.
+(true >&2) || exec 2>/dev/null
+exec 3>&2
+
 say() {
-    printf 'satskhubo: %s\n' "$*" >&2
+    printf 'satskhubo: %s\n' "$*" >&3
 }
 
 fail() {
@@ -61,9 +66,9 @@ progress() {
         'rt: '*' proved ('*)
             count=$((count + 1))
             line=${line#rt: }
-            printf 'proved %d of %d: %s %s\n' "$count" "$total" "${line%% *}" "${line#* proved }" >&2
+            printf 'proved %d of %d: %s %s\n' "$count" "$total" "${line%% *}" "${line#* proved }" >&3
             ;;
-        'rt: target/staticlib/libbench.a has '*) printf 'proved %d of %d: bench\n' "$((count + 1))" "$total" >&2 ;;
+        'rt: target/staticlib/libbench.a has '*) printf 'proved %d of %d: bench\n' "$((count + 1))" "$total" >&3 ;;
         'rt ended: '*) return "${line#rt ended: }" ;;
         esac
     done
@@ -79,7 +84,7 @@ build_archive() {
     fi
     rm -f target/archive.built
     touch "$lock"
-    { rt staticlib bench 2>&1; echo "rt ended: $?"; } | progress || fail "the library was not built: see $PWD/$log"
+    { rt staticlib bench 2>&1 3>&-; echo "rt ended: $?"; } | progress || fail "the library was not built: see $PWD/$log"
     [ -f "$archive" ] || fail "rt wrote no $archive: see $PWD/$log"
     touch -r "$lock" target/archive.built
 }
@@ -90,7 +95,7 @@ build_program() {
     mkdir -p cli/target || fail "the program must be built, and $PWD/cli cannot be written"
     rm -f cli/target/program.built
     touch "$lock"
-    cargo build --release --offline --manifest-path cli/Cargo.toml --target-dir cli/target >>"$log" 2>&1 9>&- ||
+    cargo build --release --offline --manifest-path cli/Cargo.toml --target-dir cli/target >>"$log" 3>&- 9>&- ||
         fail "the program was not built: see $PWD/$log"
     [ -x "$program" ] || fail "cargo wrote no $program: see $PWD/$log"
     touch -r "$lock" cli/target/program.built
@@ -108,6 +113,13 @@ if ! flock -n 9; then
     flock 9 || fail "the lock $PWD/$lock cannot be had"
 fi
 true >"$log" || fail "the program must be built, and $PWD/$log cannot be written"
+exec 2>>"$log"
+# What prover and compiler leave when they are ended goes with this folder.
+trap 'rm -rf "$temporary"' EXIT
+trap 'exit 143' TERM
+rm -rf "$temporary"
+mkdir "$temporary" || fail "$PWD/$temporary cannot be made"
+export TMPDIR="$PWD/$temporary"
 # Another build may have made them meanwhile.
 archive_made || build_archive
 program_made || build_program

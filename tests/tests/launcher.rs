@@ -1,15 +1,16 @@
 //! ./satskhubo and build.sh in a small tree of their own, where `rt` and `cargo` are stand-ins that say when they are called.
 mod common;
-use common::{said, scratch, top, until};
+use common::{as_nobody, said, scratch, top, until, Public};
 use std::fs;
 use std::os::unix::fs::{symlink, PermissionsExt};
 use std::os::unix::process::{CommandExt, ExitStatusExt};
 use std::path::{Path, PathBuf};
 use std::process::{Child, Command, Output, Stdio};
 
-/// rt: takes note of the call, runs the file `meanwhile` if there is one, says what rt says, and writes the archive.
+/// rt: takes note of the call, leaves a temporary file, runs the file `meanwhile` if there is one, says what rt says, and writes the archive.
 const RT: &str = r#"#!/bin/sh
 echo "rt $*" >>calls
+mktemp >/dev/null
 if [ -e meanwhile ]; then . ./meanwhile; fi
 echo 'rt: columns proved (14 s)' >&2
 echo 'fn sheet::parse: proved'
@@ -22,6 +23,7 @@ echo 'rt: target/staticlib/libbench.a has the functions of bench'
 /// cargo: takes note, and writes a program that says its version, or its arguments, and ends with 7.
 const CARGO: &str = r#"#!/bin/sh
 echo "cargo $* ${BENCH_ARCHIVE-}${CARGO_TARGET_DIR-}" >>calls
+mktemp >/dev/null
 if [ -e meanwhile_cargo ]; then . ./meanwhile_cargo; fi
 mkdir -p cli/target/release
 printf '#!/bin/sh\nif [ "$*" = --version ]; then echo version; exit; fi\nfor word; do printf "[%%s]" "$word"; done\nexit 7\n' >cli/target/release/satskhubo
@@ -52,7 +54,10 @@ fn write(path: &Path, text: &str, mode: u32) {
 impl Tree {
     /// A tree with nothing built, in a folder with a blank and a line feed in its name.
     fn new(name: &str) -> Tree {
-        let room = scratch(name);
+        Tree::new_in(&scratch(name))
+    }
+
+    fn new_in(room: &Path) -> Tree {
         let tree = Tree { top: room.join("a tree\n"), tools: room.join("tools") };
         for file in ["satskhubo", "build.sh", "install.sh", "include/satskhubo.h", "docs/satskhubo.1"] {
             write(&tree.path(file), &fs::read_to_string(top().join(file)).unwrap(), 0o755);
@@ -147,12 +152,43 @@ fn shell(text: &str, folder: &Path) -> Output {
 fn a_first_run_builds_and_hands_over() {
     let tree = Tree::new("launcher-first");
     let words = ["check", "--", "-a log", "two\nlines", "*", ""];
+    let before = tree.files();
     let output =
         tree.command().args(words).env("BENCH_ARCHIVE", "/elsewhere").env("CARGO_TARGET_DIR", "/elsewhere").output().unwrap();
     assert_eq!(String::from_utf8_lossy(&output.stderr), PROGRESS);
     assert_eq!((output.status.code(), said(&output).as_str()), (Some(7), "[check][--][-a log][two\nlines][*][]"));
     assert_eq!(tree.calls(), format!("{RT_CALL}{CARGO_CALL}"));
+    let files = tree.files();
+    let made: Vec<&str> = files.lines().filter(|file| !before.lines().any(|old| old == *file)).collect();
+    let due = [
+        "./cli/target/program.built",
+        "./cli/target/release/satskhubo",
+        "./target/archive.built",
+        "./target/build.lock",
+        "./target/build.log",
+        "./target/staticlib/libbench.a",
+    ];
+    assert_eq!(made, due);
     assert!(fs::read_to_string(tree.path("target/build.log")).unwrap().contains("fn sheet::parse: proved\n"));
+}
+
+#[test]
+fn closed_descriptors_are_in_nobodys_way() {
+    for closed in ["2>&-", "<&-", "<&- 2>&-", "2>/dev/full"] {
+        let tree = Tree::new("launcher-closed");
+        // Once to build, once more to hand over alone.
+        for calls in [format!("{RT_CALL}{CARGO_CALL}"), String::new()] {
+            let path = format!("{}:{}", tree.tools.display(), std::env::var("PATH").unwrap());
+            let shell = Command::new("sh")
+                .args(["-c", &format!("./satskhubo word {closed}")])
+                .env("PATH", path)
+                .current_dir(&tree.top)
+                .output()
+                .unwrap();
+            assert_eq!((shell.status.code(), said(&shell).as_str()), (Some(7), "[word]"), "{closed}: {shell:?}");
+            assert_eq!(tree.calls(), calls, "{closed}");
+        }
+    }
 }
 
 #[test]
@@ -232,7 +268,7 @@ fn a_build_that_fails_ends_with_2_and_says_where_its_log_is() {
 #[test]
 fn without_rt_or_cargo_it_says_where_they_come_from() {
     let tree = Tree::new("launcher-no-tools");
-    for tool in ["sh", "readlink", "find", "awk", "mkdir", "touch", "rm", "flock", "setsid", "chmod"] {
+    for tool in ["sh", "readlink", "find", "awk", "mkdir", "touch", "rm", "flock", "setsid", "chmod", "mktemp"] {
         let found = said(&shell(&format!("command -v {tool}"), &tree.top));
         symlink(found.trim_end(), tree.tools.join(tool)).unwrap();
     }
@@ -274,34 +310,24 @@ fn ended(process: &str) -> bool {
     fs::read_to_string(format!("/proc/{process}/stat")).map_or(true, |stat| stat.contains(") Z "))
 }
 
-/// As a user for whom the tree cannot be written.
-fn as_nobody(tree: &Tree) -> Command {
-    let tree_command = tree.command();
-    let mut command = if said(&shell("id -u", Path::new("/"))) == "0\n" {
-        let mut nobody = Command::new("setpriv");
-        nobody.args(["--reuid=65534", "--regid=65534", "--clear-groups"]).arg(tree.path("satskhubo"));
-        nobody
-    } else {
-        Command::new(tree.path("satskhubo"))
-    };
-    for (name, value) in tree_command.get_envs() {
-        command.env(name, value.unwrap());
-    }
-    command
-}
-
 #[test]
 fn a_tree_that_cannot_be_written() {
-    let tree = Tree::built("launcher-read-only");
+    let room = Public::new("launcher");
+    let tree = Tree::new_in(&room.0);
+    let run_as_nobody = || {
+        let path = tree.command().get_envs().find_map(|(name, value)| value.filter(|_| name == "PATH")).unwrap().to_os_string();
+        as_nobody(&tree.path("satskhubo")).arg("word").env("PATH", path).output().unwrap()
+    };
     let lock = |mode: &str| assert!(shell(&format!("chmod -R {mode} ."), &tree.top).status.success());
+    tree.run_and_expect(7);
     // A change of mode is a change: built once more, so that nothing is newer. Other users can read.
     lock("a+rX");
     tree.run_and_expect(7);
     fs::set_permissions(&tree.top, fs::Permissions::from_mode(0o555)).unwrap();
-    let output = as_nobody(&tree).arg("word").output().unwrap();
+    let output = run_as_nobody();
     assert_eq!((output.status.code(), said(&output).as_str()), (Some(7), "[word]"), "{output:?}");
     lock("a-w");
-    let output = as_nobody(&tree).arg("word").output().unwrap();
+    let output = run_as_nobody();
     lock("u+w");
     let heard = String::from_utf8_lossy(&output.stderr).into_owned();
     assert_eq!((output.status.code(), said(&output).as_str()), (Some(2), ""), "{heard}");
@@ -339,6 +365,7 @@ fn ctrl_c_ends_the_whole_build() {
         assert_eq!(output.status.signal(), Some(number), "{output:?}");
         until("what rt had started ends", || ended(child.trim_end()).then_some(()));
         until("the lock is free", || shell("flock -n target/build.lock true", &tree.top).status.success().then_some(()));
+        assert_eq!(tree.heard("ended").lines().count(), 1, "nothing is said but that it is built: {}", tree.heard("ended"));
         for file in ["meanwhile", "held", "calls"] {
             fs::remove_file(tree.path(file)).unwrap();
         }

@@ -2,7 +2,7 @@
 //! left behind and nothing is lost in silence.
 mod common;
 use common::program::{command, file, opened, plain_check, program, run, Said, KEPT, LOG, SHEET};
-use common::{scratch, until};
+use common::{as_nobody, scratch, until, Public};
 use satskhubo_tests::generate::logs::uniform;
 use satskhubo_tests::reference::sheet::{self, kind::*, Row};
 use std::fs::{self, File};
@@ -98,11 +98,17 @@ fn ctrl_c_ends_it_and_leaves_nothing() {
         let before = listing(&folder);
         let mut child = command(&[task, &sheet, &log, &log, &log]);
         child.current_dir(&folder).env("TMPDIR", &folder).stdout(Stdio::piped()).stderr(Stdio::piped());
-        let child = child.spawn().unwrap();
+        let mut child = child.spawn().unwrap();
         until("it is at work", || (processor_ticks(child.id()) >= 3).then_some(()));
         assert!(Command::new("kill").args(["-s", signal, &child.id().to_string()]).status().unwrap().success());
+        let ended = (0..2000).any(|_| {
+            std::thread::sleep(std::time::Duration::from_millis(5));
+            child.try_wait().unwrap().is_some()
+        });
+        // By itself it would take years.
+        child.kill().unwrap();
         let output = child.wait_with_output().unwrap();
-        assert_eq!(output.status.signal(), Some(number), "{output:?}");
+        assert!(ended && output.status.signal() == Some(number), "{output:?}");
         assert_eq!((output.stdout.len(), output.stderr.len()), (0, 0), "{output:?}");
         assert_eq!(listing(&folder), before);
     }
@@ -116,23 +122,19 @@ fn listing(folder: &Path) -> Vec<std::ffi::OsString> {
 
 #[test]
 fn a_folder_that_cannot_be_written_and_no_temporary_one() {
-    let folder = scratch("read-only");
+    let room = Public::new("read-only");
+    let (folder, copy) = (room.0.join("run"), room.0.join("satskhubo"));
+    fs::create_dir(&folder).unwrap();
+    fs::copy(program(), &copy).unwrap();
     for (name, from) in [("sheet", SHEET), ("log", LOG)] {
         fs::copy(common::top().join(from), folder.join(name)).unwrap();
+        fs::set_permissions(folder.join(name), fs::Permissions::from_mode(0o444)).unwrap();
     }
     fs::set_permissions(&folder, fs::Permissions::from_mode(0o555)).unwrap();
     let due = plain_check(&opened(&fs::read(folder.join("sheet")).unwrap(), &fs::read(folder.join("log")).unwrap()));
-    let is_root = unsafe { geteuid() } == 0;
-    let mut command = if is_root { Command::new("setpriv") } else { Command::new(program()) };
-    if is_root {
-        command.args(["--reuid=65534", "--regid=65534", "--clear-groups"]).arg(program());
-    }
+    let mut command = as_nobody(&copy);
     let output =
         command.args(["check", "--plain", "sheet", "log"]).current_dir(&folder).env("TMPDIR", "/no/such/folder").output();
     fs::set_permissions(&folder, fs::Permissions::from_mode(0o755)).unwrap();
     assert_eq!(Said::from(output.unwrap()).answer(), due);
-}
-
-extern "C" {
-    fn geteuid() -> u32;
 }

@@ -66,3 +66,35 @@ pub fn largest_log() -> Vec<u8> {
     lines[3997..].copy_from_slice(&[(3998, 3), (3999, 1), (4000, 3)]);
     log_of(&lines).text()
 }
+
+/// An empty folder that every user can reach, wherever the repository is; it goes with its owner.
+pub struct Public(pub std::path::PathBuf);
+
+impl Public {
+    pub fn new(name: &str) -> Public {
+        let folder = std::path::PathBuf::from(format!("/tmp/satskhubo-{name}-{}", std::process::id()));
+        std::fs::create_dir(&folder).expect("a folder is made");
+        std::fs::set_permissions(&folder, std::os::unix::fs::PermissionsExt::from_mode(0o755)).expect("its mode is set");
+        Public(folder)
+    }
+}
+
+impl Drop for Public {
+    fn drop(&mut self) {
+        let _ = std::fs::remove_dir_all(&self.0);
+    }
+}
+
+extern "C" {
+    fn geteuid() -> u32;
+}
+
+/// The program as a user who may write nowhere that it matters: as nobody, where the tests are root's.
+pub fn as_nobody(program: &std::path::Path) -> std::process::Command {
+    if unsafe { geteuid() } != 0 {
+        return std::process::Command::new(program);
+    }
+    let mut command = std::process::Command::new("setpriv");
+    command.args(["--reuid=65534", "--regid=65534", "--clear-groups"]).arg(program);
+    command
+}
