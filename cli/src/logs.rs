@@ -2,6 +2,7 @@
 use crate::input::Identity;
 use crate::names::Name;
 use crate::words::count;
+use std::collections::HashSet;
 use std::fs::{metadata, read_dir, DirEntry, Metadata};
 use std::io::Error;
 use std::os::unix::fs::MetadataExt;
@@ -16,8 +17,8 @@ pub enum Listed {
 pub struct Logs {
     pub listed: Vec<Listed>,
     pub has_folder: bool,
-    /// Links to folders below the folders that are named, which are not followed.
-    linked_folders: u64,
+    /// The folders gone through below a folder that is named: each is once, however many links lead there, so that a link back ends.
+    gone_through: HashSet<Identity>,
 }
 
 impl Logs {
@@ -40,18 +41,15 @@ impl Logs {
         self.listed.len() == 1 && !self.has_folder
     }
 
-    /// The logs counted, and what was left out, for a summary.
+    /// The logs counted, for a summary.
     pub fn counted(&self, counts: &str) -> String {
-        let linked = match self.linked_folders {
-            0 => String::new(),
-            linked => format!("; {} not followed", count(linked, "linked folder")),
-        };
-        format!("{}: {counts}{linked}\n", count(self.listed.len() as u64, "log"))
+        format!("{}: {counts}\n", count(self.listed.len() as u64, "log"))
     }
 
     fn add_given_folder(&mut self, name: &Name, left_out: &[Identity]) {
         let before = self.listed.len();
         self.has_folder = true;
+        self.gone_through.clear();
         self.add_folder(name, left_out);
         if self.listed.len() == before {
             self.add_unreadable(name, format!("no log in {}", name.words()));
@@ -62,9 +60,17 @@ impl Logs {
         self.listed.push(Listed::Unreadable(name.clone(), sentence));
     }
 
+    /// The entries of a folder that was not gone through before.
+    fn entries(&mut self, folder: &Name) -> Result<Vec<DirEntry>, Error> {
+        let found = metadata(folder.path())?;
+        match self.gone_through.insert((found.dev(), found.ino())) {
+            true => read_dir(folder.path())?.collect(),
+            false => Ok(Vec::new()),
+        }
+    }
+
     fn add_folder(&mut self, folder: &Name, left_out: &[Identity]) {
-        let entries = read_dir(folder.path()).and_then(|entries| entries.collect::<Result<Vec<DirEntry>, Error>>());
-        let mut entries = match entries {
+        let mut entries = match self.entries(folder) {
             Ok(entries) => entries,
             Err(error) => return self.add_unreadable(folder, format!("{} cannot be read: {error}", folder.words())),
         };
@@ -76,9 +82,7 @@ impl Logs {
 
     fn add_entry(&mut self, entry: &DirEntry, left_out: &[Identity]) {
         let name = Name::of_path(entry.path());
-        let is_link = entry.file_type().is_ok_and(|found| found.is_symlink());
         match metadata(name.path()) {
-            Ok(found) if found.is_dir() && is_link => self.linked_folders += 1,
             Ok(found) if found.is_dir() => self.add_folder(&name, left_out),
             Ok(found) if found.is_file() => self.add_file(name, &found, left_out),
             Ok(_) => {

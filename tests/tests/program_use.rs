@@ -228,19 +228,22 @@ fn a_folder_is_all_files_below_it() {
     ] {
         file(&folder, name, &text);
     }
-    symlink("b", folder.join("a-linked-folder")).unwrap();
+    // A folder is gone through once, by the first of its names; a link back ends.
+    symlink("b", folder.join("d-linked-folder")).unwrap();
+    symlink("..", folder.join("b/back")).unwrap();
     symlink("c", folder.join("linked")).unwrap();
+    let elsewhere = scratch("folder-elsewhere");
+    file(&elsewhere, "log", &bytes(LOG));
+    symlink(&elsewhere, folder.join("e-linked-folder")).unwrap();
     let Said { status, out, .. } = command(&["check", "--json", "sheet", "."]).current_dir(&folder).output().unwrap().into();
     let named =
         |object: &Json| format!("{} {}", object.get("file").text().trim_start_matches("./"), object.get("verdict").text());
     let said: Vec<String> = json::lines(&out).iter().map(named).collect();
-    // The sheet and the events in use are no logs; a linked folder is not followed.
-    assert_eq!((status, said.join("\n").as_str()), (1, "a holds\nb/a violated\nb/deep/z violated\nc holds\nlinked holds"));
-    let said: Said = command(&["check", "sheet", "."]).current_dir(&folder).output().unwrap().into();
-    assert!(
-        said.out.contains("5 logs: 3 hold, 2 violated, 0 refused, 0 not read") && said.out.contains("not followed"),
-        "{said:?}"
-    );
+    // The sheet and the events in use are no logs.
+    let expected = "a holds\nb/a violated\nb/deep/z violated\nc holds\ne-linked-folder/log violated\nlinked holds";
+    assert_eq!((status, said.join("\n").as_str()), (1, expected));
+    let said: Said = command(&["check", "sheet", ".", "."]).current_dir(&folder).output().unwrap().into();
+    assert!(said.out.contains("12 logs: 6 hold, 6 violated, 0 refused, 0 not read"), "{said:?}");
     let empty = scratch("folder-empty");
     let said = run(&[OsStr::new("check"), OsStr::new(SHEET), empty.as_os_str(), OsStr::new(KEPT)]);
     assert!(said.status == 2 && said.err.contains("no log in ") && said.out.ends_with("1 not read\n"), "{said:?}");

@@ -22,7 +22,7 @@ use Rattle.sheet.proofs.Theorems.{AcceptedSheet, accepted-sheet}
 use Rattle.sheet.proofs.Valid.{row-of}
 use Rattle.runlog.specs.Log.{answer as log-answer, runIn}
 use Rattle.antiscenario.specs.declared.Judged.{Judged}
-use Rattle.antiscenario.specs.Build.{built, lineFrom, taggedLine}
+use Rattle.antiscenario.specs.Build.{built}
 use Rattle.antiscenario.specs.Judge.{refusalOf, judgeOf}
 use Rattle.antiscenario.specs.Plain.{ReadsAs}
 use Rattle.antiscenario.specs.Write.{writtenLines, writtenText}
@@ -65,12 +65,8 @@ module _ (s : List ℕ) (e : answer s .refusal ≡ 0) (m : ℕ) where
 -- Rows with their sections, as they are written, and without them
 
 pub written-sections : (s : List ℕ) (m : ℕ) → writtenLines s m ≡ map numbersOf (tagged 0 (sheetIn s .antecedent ∷ chosen (sheetIn s) m))
-unfolding writtenLines written taggedLine lineFrom numbersOf
-written-sections s m = lines (tagged 0 (sheetIn s .antecedent ∷ chosen (sheetIn s) m))
-  where
-    lines : (ts : List Tagged) → map taggedLine ts ≡ map numbersOf ts
-    lines [] = refl
-    lines (t ∷ ts) = ap (λ (ls : List Line). numbersOf t ∷ ls) (lines ts)
+unfolding writtenLines written
+written-sections s m = refl
 
 tagged-rows : (cs : List (List Row)) (i : ℕ) → map rowIn (map numbersOf (tagged i cs)) ≡ flat cs
 unfolding tagged flat
