@@ -15,9 +15,12 @@ ghost use Rattle.sheet.specs.Memory.{rowAt, rowsOf};
 ghost use Rattle.pattern.specs.Placing.{puts, isPosition, by};
 
 // Point numbers are below 100; "99 the close".
-const POINT_NUMBERS: usize = 100;
+pub const POINT_NUMBERS: usize = 100;
 
-const CLOSE: usize = 99;
+pub const CLOSE: usize = 99;
+
+// "At most 58 points".
+pub const MOST_POINTS: usize = 58;
 
 // Room for 200 rows, more than an antiscenario has, six numbers to a row.
 pub const ROWS_ROOM: usize = 1200;

@@ -8,6 +8,7 @@ use native.Mathlib.Omega.{arith}
 use lib.ListN.{length, length-append}
 use lib.Dec.{eqb, leb}
 use borrow.Author.Tests.{eqb-true, leb-true, eq-eqb, ne-eqb}
+use Rattle.columns.specs.Number.{largest}
 use Rattle.scenario.specs.Rows.{Row, introduced, needs, points}
 use Rattle.scenario.specs.Fields.{decode}
 use Rattle.scenario.specs.Reading.{All, Seen, first, final, antecedent as seen-antecedent, own as seen-own, Counted, RowRead, RowsRead, SectionsRead, SheetRead}
@@ -134,7 +135,7 @@ module _ (k : ℕ) (at : Stand) (l : Line) (P : Passes k at l) (z : l .section �
 
 -- An accepted row of a consequent
 module _ (k : ℕ) (k6 : k ≤ 6) (at : Stand) (l : Line) (P : Passes k at l) (s1 : 1 ≤ l .section) where
-  module _ (F : Fair at) (fits : l .a ≤ 4294967295) where
+  module _ (F : Fair at) (fits : l .a ≤ largest) where
     cons-line : RowRead (at .antecedent) (l .section) (enter at (l .section) .own) (rowIn l)
     unfolding rowIn
     cons-line =
@@ -151,7 +152,7 @@ module _ (k : ℕ) (k6 : k ≤ 6) (at : Stand) (l : Line) (P : Passes k at l) (s
   cons-own = cons-next (enter at (l .section)) (l .p) (l .q) (l .a) (l .b) (l .section) s1 (l .kind) (P .kind) .1
 
 -- the bounds are kept
-module _ (k : ℕ) (k6 : k ≤ 6) (at : Stand) (l : Line) (P : Passes k at l) (F : Fair at) (fits : l .a ≤ 4294967295) where
+module _ (k : ℕ) (k6 : k ≤ 6) (at : Stand) (l : Line) (P : Passes k at l) (F : Fair at) (fits : l .a ≤ largest) where
   pub fair-after : Fair (after at l)
   fair-after = go (order (l .section) 0)
     where
@@ -175,7 +176,7 @@ module _ (k : ℕ) (k6 : k ≤ 6) (at : Stand) (l : Line) (P : Passes k at l) (F
 -- Rows that are accepted one after another
 abbrev pub Accepted : ℕ → Stand → List Line → Type 0
 Accepted k at [] = Unit {0}
-Accepted k at (l ∷ ls) = (refusal k at l ≡ 0) × ((l .a ≤ 4294967295) × Accepted k (after at l) ls)
+Accepted k at (l ∷ ls) = (refusal k at l ≡ 0) × ((l .a ≤ largest) × Accepted k (after at l) ls)
 
 -- a section of rows: one row more
 pub section-in : (i : ℕ) (l : Line) (ls : List Line) → l .section ≡ i → section i (l ∷ ls) ≡ rowIn l ∷ section i ls

@@ -8,6 +8,7 @@ use native.Mathlib.Omega.{arith}
 use lib.ListN.{length}
 use lib.Dec.{eqb, leb, ltb}
 use borrow.Author.Tests.{eqb-true, leb-true, ltb-true}
+use Rattle.columns.specs.Number.{largest}
 use Rattle.scenario.specs.Rows.{Row, introduced, needs}
 use Rattle.scenario.specs.Fields.{five, fields, decode}
 use Rattle.scenario.specs.Reading.{All, Ordinary, IsEvents, Seen, first, final, antecedent as seen-antecedent, own as seen-own, RowRead}
@@ -71,7 +72,7 @@ unfolding isDue
 due-is f m n p e = let b = both-true (ltb n m) (eqb p (f + n + 1)) e in (eqb-true p (f + n + 1) (b .1), ltb-true n m (b .0))
 
 -- A row of a consequent s, where c of its points and a of the antecedent's are introduced
-module _ (s a c : ℕ) (s1 : 1 ≤ s) (s6 : s ≤ 6) (a4 : a ≤ 4) (c8 : c ≤ 8) (p q x b : ℕ) (fits : x ≤ 4294967295) where
+module _ (s a c : ℕ) (s1 : 1 ≤ s) (s6 : s ≤ 6) (a4 : a ≤ 4) (c8 : c ≤ 8) (p q x b : ℕ) (fits : x ≤ largest) where
   abbrev ConsRow : ℕ → Type 0
   ConsRow k =
       kindFits s k ≡ true → pFits k s a c p ≡ true → qFits k s a c p q x ≡ true → RowRead a s c (decode k p q x b)

@@ -9,7 +9,7 @@ use native.Mathlib.Omega.{arith}
 use lib.ListN.{length}
 use lib.Dec.{eqb, ltb}
 use borrow.Author.Tests.{eqb-true, eqb-false, ltb-false}
-use Rattle.scenario.specs.Rows.{Row}
+use Rattle.scenario.specs.Rows.{Row, event-count}
 use Rattle.scenario.specs.Fields.{five, fields, Tagged, tagged}
 use Rattle.scenario.specs.Sheet.{Sheet, count, Demand, antiscenario}
 use Rattle.scenario.specs.Search.{check, smallest-matching}
@@ -257,7 +257,7 @@ most-count s e =
     count-most (headOf s .k) (taken s .lines) A (head-good s (T .head) .k)
 
 -- Demand 3 of every accepted sheet
-pub accepted-demand : (s : List ℕ) → answer s .refusal ≡ 0 → (g : Log) → All (λ (e : ℕ). e < 32) (g .events)
+pub accepted-demand : (s : List ℕ) → answer s .refusal ≡ 0 → (g : Log) → All (λ (e : ℕ). e < event-count) (g .events)
     → Demand (runOf g) (sheetOf (answer s .k) (taken s .lines)) (check (runOf g) (sheetOf (answer s .k) (taken s .lines)))
     (λ m. smallest-matching (runOf g) (antiscenario (sheetOf (answer s .k) (taken s .lines)) m))
 accepted-demand s e g h = demand-three g h (sheetOf (answer s .k) (taken s .lines)) (accepted-sheet s e .read)

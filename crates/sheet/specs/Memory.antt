@@ -7,7 +7,7 @@ use Prim.Native.Nat.{ℕ, zero, suc, _+_, _*_, _≤_, _<_}
 use lib.ListN.{length, getD, set}
 use lib.Dec.{leb, eqb}
 use Rattle.sheet.specs.declared.Line.{Line}
-use Rattle.scenario.specs.Rows.{Row}
+use Rattle.scenario.specs.Rows.{Row, close-point}
 use Rattle.scenario.specs.Fields.{Tagged}
 use Rattle.sheet.specs.Row.{six}
 use Rattle.sheet.specs.Reading.{rowIn}
@@ -71,7 +71,7 @@ tagsOf rows count = listed (tagAt rows) 0 count
 
 -- "0 is the start and 99 the close"
 unfoldable pub edge : ℕ → Bool
-edge p = eqb p 0 || eqb p 99
+edge p = eqb p 0 || eqb p close-point
 
 -- how many denials FREE p q has ("If p or q is 0 or 99 there is one denial"), and a row of each kind ("EARLIER, LATER: none. BEFORE p q: two denials")
 unfoldable pub weightFree : (p q : ℕ) → ℕ

@@ -17,13 +17,16 @@ const MOST_CONSEQUENT_ROWS: u32 = 24;
 
 const MOST_ANTISCENARIOS: u64 = 4096;
 
+// Room for 176 rows, six numbers to a row.
+pub const SHEET_ROOM: usize = 1056;
+
 // The antecedent and the consequents.
 pub const SECTIONS: usize = 7;
 
 // Points: 0 is the start and 99 the close; the antecedent introduces up to 4, a consequent up to 8.
 const START: u32 = 0;
 
-const CLOSE: u32 = 99;
+pub const CLOSE: u32 = 99;
 
 const ANTECEDENT_POINTS: u32 = 4;
 
@@ -706,7 +709,7 @@ pub fn load_sheet(s: &[u8], rows: &mut [u32]) -> Answer
 pub fn read_sheet(sheet: &[u8]) -> SheetCount
     ensures { λ r. ⌜ r ≡ countOf (now (sheet .entry)) ⌝ }
 {
-    let mut rows = [0u32; 1056];
+    let mut rows = [0u32; SHEET_ROOM];
     let read = load_sheet(sheet, &mut rows);
     SheetCount {
         refusal: read.refusal,

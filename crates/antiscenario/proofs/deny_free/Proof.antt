@@ -13,14 +13,14 @@ returns : tie.Need-returns
 returns c =
     let a = c .before .before .before .before .before .before .before .before .before .before .args in
     done-one _ _ _ (c .before .before .before .before .before .before .before .row .result) _
-    (free-1 (a .line) (a .v) (c .before .before .before .before .before .before .before .before .before .before .pre .2) (c .before .before .before .before .before .before .before .before .before .before .pre .0) (sym (c .before .before .before .is-edge .ensures) ∙ c .before .before .if1 .taken) (sym (c .before .is-edge2 .ensures) ∙ c .if2 .taken) ∙ ap (λ (x : Line). x ∷ []) (sym (c .before .before .before .before .before .before .before .row .ensures)))
+    (free-1 (a .line) (a .v) (sym (c .before .before .before .is-edge .ensures) ∙ c .before .before .if1 .taken) (sym (c .before .is-edge2 .ensures) ∙ c .if2 .taken) ∙ ap (λ (x : Line). x ∷ []) (sym (c .before .before .before .before .before .before .before .row .ensures)))
     (c .before .before .before .before .before .before .put-line .ensures)
 
 returns-2 : tie.Need-returns-2
 returns-2 c =
     let a = c .before .before .before .before .before .before .before .before .before .before .before .before .before .before .before .args in
     done-two _ _ _ (c .before .before .before .before .before .before .before .before .before .before .before .before .row .result) (c .before .before .before .inside .result) _ _
-    (free-2 (a .line) (a .v) (c .before .before .before .before .before .before .before .before .before .before .before .before .before .before .before .pre .2) (c .before .before .before .before .before .before .before .before .before .before .before .before .before .before .before .pre .0) (sym (c .before .before .before .before .before .before .before .before .is-edge .ensures) ∙ c .before .before .before .before .before .before .before .if1 .taken) (sym (c .before .before .before .before .before .before .is-edge2 .ensures) ∙ c .before .before .before .before .before .if2 .left)
+    (free-2 (a .line) (a .v) (sym (c .before .before .before .before .before .before .before .before .is-edge .ensures) ∙ c .before .before .before .before .before .before .before .if1 .taken) (sym (c .before .before .before .before .before .before .is-edge2 .ensures) ∙ c .before .before .before .before .before .if2 .left)
     ∙ ap₂ (λ (x y : Line). x ∷ y ∷ []) (sym (c .before .before .before .before .before .before .before .before .before .before .before .before .row .ensures)) (sym (c .before .before .before .inside .ensures)))
     (c .before .before .before .before .before .before .before .before .before .before .before .put-line .ensures) (c .before .before .put-line2 .ensures)
 
@@ -28,7 +28,7 @@ returns-3 : tie.Need-returns-3
 returns-3 c =
     let a = c .before .before .before .before .before .before .before .before .before .before .before .before .before .before .before .args in
     done-two _ _ _ (c .before .before .before .before .before .before .before .before .before .before .before .before .row .result) (c .before .before .before .inside2 .result) _ _
-    (free-3 (a .line) (a .v) (c .before .before .before .before .before .before .before .before .before .before .before .before .before .before .before .pre .2) (c .before .before .before .before .before .before .before .before .before .before .before .before .before .before .before .pre .0) (sym (c .before .before .before .before .before .before .before .before .is-edge .ensures) ∙ c .before .before .before .before .before .before .before .if1 .left) (sym (c .before .before .before .before .before .before .is-edge3 .ensures) ∙ c .before .before .before .before .before .if3 .taken)
+    (free-3 (a .line) (a .v) (sym (c .before .before .before .before .before .before .before .before .is-edge .ensures) ∙ c .before .before .before .before .before .before .before .if1 .left) (sym (c .before .before .before .before .before .before .is-edge3 .ensures) ∙ c .before .before .before .before .before .if3 .taken)
     ∙ ap₂ (λ (x y : Line). x ∷ y ∷ []) (sym (c .before .before .before .before .before .before .before .before .before .before .before .before .row .ensures)) (sym (c .before .before .before .inside2 .ensures)))
     (c .before .before .before .before .before .before .before .before .before .before .before .put-line .ensures) (c .before .before .put-line3 .ensures)
 
@@ -39,7 +39,7 @@ returns-4 : tie.Need-returns-4
 returns-4 c =
     let a = c .before .before .before .before .before .before .before .before .before .before .before .before .before .before .before .before .before .before .before .before .before .args in
     done-three _ _ _ (c .before .before .before .before .before .before .before .before .before .before .before .before .before .before .before .before .before .before .row .result) (c .before .before .before .before .before .before .before .before .before2 .result) (c .before .before .before .before3 .result) _ _ _
-    (free-4 (a .line) (a .v) (c .before .before .before .before .before .before .before .before .before .before .before .before .before .before .before .before .before .before .before .before .before .pre .2) (c .before .before .before .before .before .before .before .before .before .before .before .before .before .before .before .before .before .before .before .before .before .pre .0) (sym (c .before .before .before .before .before .before .before .before .before .before .before .before .before .before .is-edge .ensures) ∙ c .before .before .before .before .before .before .before .before .before .before .before .before .before .if1 .left) (sym (c .before .before .before .before .before .before .before .before .before .before .before .before .is-edge3 .ensures) ∙ c .before .before .before .before .before .before .before .before .before .before .before .if3 .left) (c .before .before .before .before .before .before .before .before .before .before .if4 .taken)
+    (free-4 (a .line) (a .v) (sym (c .before .before .before .before .before .before .before .before .before .before .before .before .before .before .is-edge .ensures) ∙ c .before .before .before .before .before .before .before .before .before .before .before .before .before .if1 .left) (sym (c .before .before .before .before .before .before .before .before .before .before .before .before .is-edge3 .ensures) ∙ c .before .before .before .before .before .before .before .before .before .before .before .if3 .left) (c .before .before .before .before .before .before .before .before .before .before .if4 .taken)
     ∙ ap₂ (λ (x : Line) (y : List Line). x ∷ y) (sym (c .before .before .before .before .before .before .before .before .before .before .before .before .before .before .before .before .before .before .row .ensures)) (ap₂ (λ (x y : Line). x ∷ y ∷ []) (sym (c .before .before .before .before .before .before .before .before .before2 .ensures)) (sym (c .before .before .before .before3 .ensures))))
     (c .before .before .before .before .before .before .before .before .before .before .before .before .before .before .before .before .before .put-line .ensures) (c .before .before .before .before .before .before .before .put-line4 .ensures) (c .before .before .put-line5 .ensures)
 
@@ -50,7 +50,7 @@ returns-5 : tie.Need-returns-5
 returns-5 c =
     let a = c .before .before .before .before .before .before .before .before .before .before .before .before .before .before .before .before .before .before .before .before .before .args in
     done-three _ _ _ (c .before .before .before .before .before .before .before .before .before .before .before .before .before .before .before .before .before .before .row .result) (c .before .before .before .before .before .before .before .before .before4 .result) (c .before .before .before .before5 .result) _ _ _
-    (free-5 (a .line) (a .v) (c .before .before .before .before .before .before .before .before .before .before .before .before .before .before .before .before .before .before .before .before .before .pre .2) (c .before .before .before .before .before .before .before .before .before .before .before .before .before .before .before .before .before .before .before .before .before .pre .0) (sym (c .before .before .before .before .before .before .before .before .before .before .before .before .before .before .is-edge .ensures) ∙ c .before .before .before .before .before .before .before .before .before .before .before .before .before .if1 .left) (sym (c .before .before .before .before .before .before .before .before .before .before .before .before .is-edge3 .ensures) ∙ c .before .before .before .before .before .before .before .before .before .before .before .if3 .left) (c .before .before .before .before .before .before .before .before .before .before .if4 .left)
+    (free-5 (a .line) (a .v) (sym (c .before .before .before .before .before .before .before .before .before .before .before .before .before .before .is-edge .ensures) ∙ c .before .before .before .before .before .before .before .before .before .before .before .before .before .if1 .left) (sym (c .before .before .before .before .before .before .before .before .before .before .before .before .is-edge3 .ensures) ∙ c .before .before .before .before .before .before .before .before .before .before .before .if3 .left) (c .before .before .before .before .before .before .before .before .before .before .if4 .left)
     ∙ ap₂ (λ (x : Line) (y : List Line). x ∷ y) (sym (c .before .before .before .before .before .before .before .before .before .before .before .before .before .before .before .before .before .before .row .ensures)) (ap₂ (λ (x y : Line). x ∷ y ∷ []) (sym (c .before .before .before .before .before .before .before .before .before4 .ensures)) (sym (c .before .before .before .before5 .ensures))))
     (c .before .before .before .before .before .before .before .before .before .before .before .before .before .before .before .before .before .put-line .ensures) (c .before .before .before .before .before .before .before .put-line6 .ensures) (c .before .before .put-line7 .ensures)
 
