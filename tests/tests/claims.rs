@@ -102,6 +102,28 @@ fn claims_name_tests_that_are_there() {
     assert!(missing.is_empty(), "docs/CLAIMS.md names tests that are not there: {missing:?}");
 }
 
+/// A file of definitions says in its first line whether it must be believed; CLAIMS lists those that must, with their lines.
+#[test]
+fn claims_list_what_must_be_believed() {
+    let text = claims();
+    let (mut files, mut lines) = (0, 0);
+    for name in crates() {
+        for file in names_in(&format!("crates/{name}/specs")).into_iter().filter(|file| file != "Lib.antt") {
+            let path = format!("{name}/specs/{file}");
+            let source = fs::read_to_string(top().join("crates").join(&path)).unwrap();
+            let first = source.lines().next().unwrap_or("");
+            if first.ends_with("Inner vocabulary.") {
+                continue;
+            }
+            assert!(first.ends_with("What must be believed."), "{path}: {first}");
+            let count = source.lines().count();
+            assert!(text.contains(&format!("`{path}` {count}")), "docs/CLAIMS.md does not list {path} with {count} lines");
+            (files, lines) = (files + 1, lines + count);
+        }
+    }
+    assert!(text.contains(&format!("Together {files} files and {lines} lines.")), "{files} files, {lines} lines");
+}
+
 #[test]
 fn claims_name_every_must_fail_edit() {
     let text = claims();

@@ -33,8 +33,8 @@ use Rattle.verdict.specs.Check.{Accepted, checkOf}
 use Rattle.verdict.specs.Demands.{DemandThree}
 use Rattle.verdict.proofs.DemandThree.{demand-bytes}
 
--- Demand 1. What is refused, with which number, and that lent memory is unchanged then, is in each operation's contract, an equation with its definition
--- (`load_sheet`, `load_log`, `read_sheet`, `read_log`, `judge`, `write_antiscenario`, `search_antiscenario`, `check`, `show_line`, and the exports of `bench`).
+-- Demand 1. What is refused, with which number, and that lent memory is unchanged then, is in the contract of each of document 01's operations, an equation with
+-- its definition (`read_sheet`, `read_log`, `judge`, `write_antiscenario`, `search_antiscenario`, `check`, `show_line`, and the exports of `bench`).
 -- Here: the accepted texts are exactly the spellings of valid sheets and of valid logs (sheet/specs/Valid, runlog/specs/Text), each is read as the sheet or log
 -- that it spells, with its count, and each is that of its own rows or lines alone.
 pub record DemandOne : Type 0 where
