@@ -19,6 +19,10 @@
 #include <stddef.h>
 #include <stdint.h>
 
+#ifdef __cplusplus
+extern "C" {
+#endif
+
 /* The most points that an antiscenario has. */
 #define SATSKHUBO_MOST_POINTS 58
 
@@ -102,5 +106,9 @@ uint32_t satskhubo_line(const uint8_t *sheet, size_t sheet_len, const uint8_t *l
  */
 uint32_t satskhubo_read_field(const uint8_t *text, size_t text_len, size_t width, uint32_t *value);
 uint32_t satskhubo_write_field(uint8_t *buffer, size_t buffer_len, size_t at, size_t width, uint32_t value);
+
+#ifdef __cplusplus
+}
+#endif
 
 #endif

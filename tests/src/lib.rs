@@ -3,6 +3,7 @@ pub mod compare;
 pub mod expected;
 pub mod generate;
 pub mod host;
+pub mod json;
 pub mod outcome;
 pub mod plain;
 pub mod random;

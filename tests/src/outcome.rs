@@ -8,6 +8,9 @@ pub const PATTERN_SIZE: usize = 0xa5a5_a5a5_a5a5_a5a5;
 pub const PATTERN_COUNT: u64 = 0xa5a5_a5a5_a5a5_a5a5;
 pub const GUARD: usize = 4;
 
+/// Document 01: a row has 35 bytes, and no line more.
+const MOST_LINE: usize = 35;
+
 #[derive(Debug, PartialEq, Eq)]
 pub struct LogRead {
     pub answer: u32,
@@ -73,6 +76,24 @@ pub struct Shown {
     pub length: usize,
 }
 
+/// The line itself, at the front of lent memory.
+#[derive(Debug, PartialEq, Eq)]
+pub struct LineShown {
+    pub answer: u32,
+    pub line: Vec<u8>,
+    pub length: usize,
+}
+
+impl Shown {
+    /// The bytes that it names.
+    pub fn line(&self, sheet: &[u8], log: &[u8]) -> LineShown {
+        let text = if self.of_log == 1 { log } else { sheet };
+        let mut line = guarded(MOST_LINE, PATTERN);
+        line[GUARD..GUARD + self.length].copy_from_slice(&text[self.offset..self.offset + self.length]);
+        LineShown { answer: self.answer, line, length: self.length }
+    }
+}
+
 #[derive(Debug, PartialEq, Eq)]
 pub struct FieldRead {
     pub answer: u32,
@@ -100,4 +121,8 @@ pub trait Side {
     fn search(&self, sheet: &[u8], log: &[u8], number: u64, places: usize) -> Searched;
     fn check(&self, sheet: &[u8], log: &[u8]) -> Checked;
     fn show(&self, sheet: &[u8], log: &[u8]) -> Shown;
+    /// The line itself: what `show` names, unless the side hands it out too.
+    fn line(&self, sheet: &[u8], log: &[u8]) -> LineShown {
+        self.show(sheet, log).line(sheet, log)
+    }
 }

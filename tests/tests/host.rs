@@ -1,6 +1,8 @@
-//! The example host in C: compiled with every warning an error, linked with the archive, run on the examples, once under valgrind.
+//! The example host in C and a host in C++: compiled with every warning an error, linked with the archive, run on the examples,
+//! under valgrind and with the stack that docs/HOSTS.md promises.
 mod common;
-use common::{said, top};
+use common::{largest_log, said, scratch, top};
+use satskhubo_tests::generate::sheets::largest;
 use std::path::{Path, PathBuf};
 use std::process::{Command, Output};
 
@@ -9,20 +11,24 @@ fn archive() -> PathBuf {
     folder.join("libbench.a")
 }
 
-/// Compiles the host into a file of its own and gives its path.
-fn host(name: &str) -> PathBuf {
+/// Compiles a host into a file of its own and gives its path.
+fn compiled(compiler: &str, standard: &str, source: &str, name: &str) -> PathBuf {
     let program = Path::new(env!("CARGO_TARGET_TMPDIR")).join(name);
-    let compiled = Command::new("gcc")
-        .args(["-std=c11", "-O1", "-g", "-Wall", "-Wextra", "-Werror"])
+    let compiled = Command::new(compiler)
+        .args([standard, "-O1", "-g", "-Wall", "-Wextra", "-Wpedantic", "-Werror"])
         .arg(format!("-I{}", top().join("include").display()))
-        .arg(top().join("examples/host/host.c"))
+        .arg(top().join(source))
         .arg(archive())
         .arg("-o")
         .arg(&program)
         .output()
-        .expect("gcc runs");
+        .expect("the compiler runs");
     assert!(compiled.status.success(), "{}", String::from_utf8_lossy(&compiled.stderr));
     program
+}
+
+fn host(name: &str) -> PathBuf {
+    compiled("gcc", "-std=c11", "examples/host/host.c", name)
 }
 
 fn run(command: &mut Command, sheet: &str, log: &str) -> Output {
@@ -56,4 +62,30 @@ fn keeps_to_its_memory() {
     valgrind.args(["--quiet", "--error-exitcode=99"]).arg(&program);
     let watched = run(&mut valgrind, "lockmass/sheet", "lockmass/log");
     assert_eq!(watched.status.code(), Some(1), "{}", String::from_utf8_lossy(&watched.stderr));
+}
+
+#[test]
+fn the_header_serves_c_plus_plus() {
+    let program = compiled("g++", "-std=c++11", "tests/host.cpp", "host-in-c++");
+    let output = run(&mut Command::new(&program), "lockmass/sheet", "lockmass/log");
+    let due = "check 100\nread_log 0 3\nread_sheet 0 4\nsatskhubo_check 100 1 3 1 3\nwrite 0 112\nsearch 0 1 3 1\njudge 0 1\nshow 1 0 0 7\nwrite_field 0\nread_field 0 4294967295\n";
+    assert_eq!((output.status.code(), said(&output).as_str()), (Some(0), due));
+}
+
+/// 128 KiB, as docs/HOSTS.md says; the largest log, and a sheet whose antiscenarios have 58 points.
+#[test]
+fn is_content_with_the_stack_promised() {
+    let program = host("host-on-little-stack");
+    let folder = scratch("little-stack");
+    std::fs::write(folder.join("sheet"), largest()).unwrap();
+    std::fs::write(folder.join("log"), largest_log()).unwrap();
+    let limited = |sheet: &Path, log: &Path| {
+        let mut shell = Command::new("sh");
+        shell.args(["-c", "ulimit -s 128 && exec \"$@\"", "sh"]).arg(&program).arg(sheet).arg(log).output().expect("sh runs")
+    };
+    let examples = top().join("examples/lockmass");
+    assert_eq!(said(&limited(&examples.join("sheet"), &examples.join("log-kept"))), "holds\n");
+    let output = limited(&folder.join("sheet"), &folder.join("log"));
+    assert_eq!(output.status.code(), Some(1), "{output:?}");
+    assert!(said(&output).starts_with("violated at 3998 4000 3998 3998, rows at fault 41 50 59 68 77 86\n"), "{}", said(&output));
 }

@@ -6,16 +6,17 @@ use Prim.Native.Nat.{ℕ, zero, suc, _+_, _-_, _≤_, _<_}
 use native.Mathlib.Omega.{arith}
 use lib.ListN.{length}
 use Rattle.scenario.specs.Rows.{Row, point, next, last, earlier, later, before, apart, same, free, within, outside, event, introduced, points}
-use Rattle.scenario.specs.Fields.{Fields, fields, five, rowOf, Tagged, tagged, written}
+use Rattle.scenario.specs.Fields.{Fields, fields, five, decode, Tagged, tagged, written}
 use Rattle.scenario.specs.Sheet.{Sheet}
 use Rattle.scenario.specs.Reading.{All, SheetRead, RowsRead, SectionsRead}
 use Rattle.scenario.proofs.Base.{all-append, all-map, Order, lower, level, upper, order}
 use Rattle.sheet.specs.declared.Line.{Line}
-use Rattle.sheet.specs.Reading.{rowIn, orSame, sheetOf, taken, answer}
+use Rattle.sheet.specs.Reading.{rowIn, sheetOf, taken, answer}
 use Rattle.sheet.specs.Memory.{lay, lineIn, linesIn}
-use Rattle.sheet.proofs.Denials.{any-kind}
+use Rattle.scenario.proofs.Numbers.{any-kind}
 use Rattle.sheet.proofs.Theorems.{AcceptedSheet, accepted-sheet, tag}
-use Rattle.antiscenario.specs.Build.{taggedLine, built}
+use Rattle.sheet.specs.Text.{numbersOf}
+use Rattle.antiscenario.specs.Build.{built}
 use Rattle.antiscenario.proofs.Choice.{Fair, built-is}
 
 -- kinds are 1 to 12
@@ -74,10 +75,10 @@ untag (l ∷ ls) A = (A .0, untag ls (A .1))
 
 module _ (p q a b : ℕ) where
   abbrev First : ℕ → Type 0
-  First k = 1 ≤ k → k ≤ 5 → Below (orSame (rowOf (five k p q a b))) → p < 100
+  First k = 1 ≤ k → k ≤ 5 → Below (decode k p q a b) → p < 100
 
   first-below : (k : ℕ) → First k
-  unfolding orSame rowOf
+  unfolding decode
   first-below =
       any-kind First
       (λ lo hi h. absurd (omega arith))
@@ -141,7 +142,7 @@ module _ (s : List ℕ) (e : answer s .refusal ≡ 0) (m₀ : List ℕ) (room : 
       let sh = sheetOf (answer s .k) (taken s .lines) in
       six-lines (taken s .lines) (subst (All Six) (S .rows) (six-sections 0 (sh .antecedent ∷ sh .consequents) (omega (arith, S .read .count))))
 
-  pub built-written : (number : ℕ) → built memory (answer s .rows) (answer s .k) (number - 1) ≡ map taggedLine (written (sheetOf (answer s .k) (taken s .lines)) number)
+  pub built-written : (number : ℕ) → built memory (answer s .rows) (answer s .k) (number - 1) ≡ map numbersOf (written (sheetOf (answer s .k) (taken s .lines)) number)
   built-written number =
       built-is memory (answer s .rows) (λ i h. at-line Fair memory (answer s .rows) 0 (subst (All Fair) (sym lines-are) all-fair) i (omega arith) (omega arith)) (answer s .k) number
-      ∙ ap (λ (ls : List Line). map taggedLine (written (sheetOf (answer s .k) ls) number)) lines-are
+      ∙ ap (λ (ls : List Line). map numbersOf (written (sheetOf (answer s .k) ls) number)) lines-are

@@ -10,7 +10,7 @@ use lib.Dec.{eqb, leb, ltb}
 use borrow.Author.Tests.{eq-eqb, ne-eqb, ltb-true}
 use Rattle.scenario.proofs.Base.{Order, lower, level, upper, order}
 use Rattle.sheet.specs.Memory.{lineIn, linesIn, weighLine, product}
-use Rattle.antiscenario.specs.Build.{uses, marked, wanted, brought, own, denied, denialFrom, chosenFrom, ofSection, built}
+use Rattle.antiscenario.specs.Build.{uses, marked, wanted, brought, own, denied, denialFrom, chosenFrom, ofSection, built, farOf}
 use Rattle.antiscenario.proofs.Steps.{own-short, counts}
 
 -- how many of the first i rows are of section s
@@ -94,9 +94,9 @@ module _ (m : List ℕ) where
       let e : n - i + i ≡ n = omega arith in
       omega (
         arith,
-        length-append (brought m (lineIn m i .section) (marked (replicate 100 0) (uses (lineIn m i))) i) (own (lineIn m i) v),
+        length-append (brought m (lineIn m i .section) (marked (replicate 100 0) (uses (lineIn m i))) i) (own (farOf (lineIn m i)) (lineIn m i) v),
         brought-few (lineIn m i .section) i (marked (replicate 100 0) (uses (lineIn m i))),
-        own-short (lineIn m i) v,
+        own-short (farOf (lineIn m i)) (lineIn m i) v,
         tally-up (lineIn m i .section) i (n - i),
         ap (tally m (lineIn m i .section)) e,
       )

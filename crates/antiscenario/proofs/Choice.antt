@@ -11,14 +11,16 @@ use lib.Seq.{getD-set-same, getD-set-other}
 use lib.Dec.{eqb, leb, ltb}
 use borrow.Author.Tests.{le-ltb, eqb-true, eqb-false, ltb-true, ltb-false}
 use Rattle.scenario.specs.Rows.{Row, point, next, last, earlier, later, before, apart, same, free, within, outside, event, introduced, needs, brings, elem, closure, denying-rows, denials, far-end}
-use Rattle.scenario.specs.Fields.{fields, five, rowOf, Tagged, tagged, written}
+use Rattle.scenario.specs.Fields.{fields, five, decode, Tagged, tagged, written}
 use Rattle.scenario.specs.Sheet.{choices, total, choose, chosen}
 use Rattle.sheet.specs.declared.Line.{Line}
 use Rattle.sheet.specs.Row.{six}
-use Rattle.sheet.specs.Reading.{rowIn, orSame, section, sections, sheetOf}
+use Rattle.sheet.specs.Reading.{rowIn, section, sections, sheetOf}
 use Rattle.sheet.specs.Memory.{lineIn, linesIn, weight, weighLine, product}
-use Rattle.sheet.proofs.Denials.{any-kind, line-weight, choices-product}
-use Rattle.antiscenario.specs.Build.{lineFrom, taggedLine, uses, marked, wanted, brought, own, denied, denialFrom, chosenFrom, ofSection, built}
+use Rattle.scenario.proofs.Numbers.{any-kind}
+use Rattle.sheet.proofs.Denials.{line-weight, choices-product}
+use Rattle.sheet.specs.Text.{numbersOf}
+use Rattle.antiscenario.specs.Build.{lineFrom, uses, marked, wanted, brought, own, denied, denialFrom, chosenFrom, ofSection, built}
 
 -- What reading gives of a line: its numbers are its row's, its kind is one of the twelve, and a consequent's points are below 100.
 pub record Fair (l : Line) : Type 0 where
@@ -28,7 +30,7 @@ pub record Fair (l : Line) : Type 0 where
   pub small : 1 ≤ l .section → l .kind ≤ 5 → l .p < 100
 
 line-back : (l : Line) (s : ℕ) → Fair l → l .section ≡ s → lineFrom s (rowIn l) ≡ l
-unfolding lineFrom
+unfolding lineFrom numbersOf
 line-back l s f e = rw (f .numbers, sym e)
 
 -- Marks by number are a list of points
@@ -80,10 +82,10 @@ marks-none = record { long = length-replicate {A = ℕ} 100 0; is = λ x h. ap (
 
 module _ (marks ps : List ℕ) (p q a b : ℕ) where
   abbrev Brings : ℕ → Type 0
-  Brings k = 1 ≤ k → k ≤ 12 → (k ≤ 5 → eqb (getD marks p 0) 1 ≡ elem p ps) → (leb 1 k && leb k 5 && eqb (getD marks p 0) 1) ≡ brings (introduced (orSame (rowOf (five k p q a b)))) ps
+  Brings k = 1 ≤ k → k ≤ 12 → (k ≤ 5 → eqb (getD marks p 0) 1 ≡ elem p ps) → (leb 1 k && leb k 5 && eqb (getD marks p 0) 1) ≡ brings (introduced (decode k p q a b)) ps
 
   brings-is : (k : ℕ) → Brings k
-  unfolding orSame rowOf brings
+  unfolding decode brings
   brings-is =
       any-kind Brings
       (λ lo hi h. absurd (omega arith))
@@ -97,10 +99,10 @@ module _ (marks ps : List ℕ) (p q a b : ℕ) where
 
 module _ (s p q a b : ℕ) where
   abbrev Uses : ℕ → Type 0
-  Uses k = 1 ≤ k → k ≤ 12 → uses (six s k p q a b) ≡ needs (orSame (rowOf (five k p q a b)))
+  Uses k = 1 ≤ k → k ≤ 12 → uses (six s k p q a b) ≡ needs (decode k p q a b)
 
   uses-kind : (k : ℕ) → Uses k
-  unfolding orSame rowOf uses
+  unfolding decode uses
   uses-kind =
       any-kind Uses
       (λ lo hi. absurd (omega arith))
@@ -234,12 +236,12 @@ module _ (m : List ℕ) (n : ℕ) (fair : (i : ℕ) → i < n → Fair (lineIn m
                   f (j - weight (lineIn m i .kind) (lineIn m i .p) (lineIn m i .q)) ∙ rw (e, sym w) (ap (map (lineFrom s))
                   (sym (step-on (past m s i) (rowIn (lineIn m i)) (denials z (10 * s + 9) (rowIn (lineIn m i) ∷ past m s i) (section s (linesIn m (suc i) left))) j h')))
 
-  front : (s : ℕ) (h : 1 ≤ s) (z : Row → ℕ) → ((r : Row) → z r ≡ far-end [] [] r) → (j : ℕ) → denialFrom m s 0 n j ≡ map (λ (r : Row). taggedLine (record { section = s; row = r })) (getD (denials z (10 * s + 9) [] (section s (linesIn m 0 n))) j [])
-  unfolding past taggedLine
+  front : (s : ℕ) (h : 1 ≤ s) (z : Row → ℕ) → ((r : Row) → z r ≡ far-end [] [] r) → (j : ℕ) → denialFrom m s 0 n j ≡ map (λ (r : Row). numbersOf (record { section = s; row = r })) (getD (denials z (10 * s + 9) [] (section s (linesIn m 0 n))) j [])
+  unfolding past lineFrom
   front s h z e j = denial-is s h z e n 0 j (omega arith)
 
   -- one denial of each section
-  chosen-is : (antecedent : List Row) (left s j : ℕ) → 1 ≤ s → chosenFrom m n s left j ≡ map taggedLine (tagged s (choose [] (choices antecedent s (sections s left (linesIn m 0 n))) j))
+  chosen-is : (antecedent : List Row) (left s j : ℕ) → 1 ≤ s → chosenFrom m n s left j ≡ map numbersOf (tagged s (choose [] (choices antecedent s (sections s left (linesIn m 0 n))) j))
   unfolding chosenFrom tagged choose choices sections
   chosen-is antecedent zero s j h = refl
   chosen-is antecedent (suc left) s j h =
@@ -249,11 +251,11 @@ module _ (m : List ℕ) (n : ℕ) (fair : (i : ℕ) → i < n → Fair (lineIn m
       let d = getD (denials (far-end antecedent (section s ls)) (10 * s + 9) [] (section s ls)) (j / T) [] in
       let rest = tagged (suc s) (choose [] (choices antecedent (suc s) (sections (suc s) left ls)) (j % T)) in
       let tag : Row → Tagged = λ r. record { section = s; row = r } in
-      let a : denialFrom m s 0 n (j / product (suc s) left ls) ≡ map taggedLine (map tag d) =
-      ap (λ (v : ℕ). denialFrom m s 0 n (j / v)) t ∙ front s h (far-end antecedent (section s ls)) (far-end-same antecedent (section s ls)) (j / T) ∙ sym (map-map taggedLine tag d) in
-      let b : chosenFrom m n (suc s) left (j % product (suc s) left ls) ≡ map taggedLine rest =
+      let a : denialFrom m s 0 n (j / product (suc s) left ls) ≡ map numbersOf (map tag d) =
+      ap (λ (v : ℕ). denialFrom m s 0 n (j / v)) t ∙ front s h (far-end antecedent (section s ls)) (far-end-same antecedent (section s ls)) (j / T) ∙ sym (map-map numbersOf tag d) in
+      let b : chosenFrom m n (suc s) left (j % product (suc s) left ls) ≡ map numbersOf rest =
       ap (λ (v : ℕ). chosenFrom m n (suc s) left (j % v)) t ∙ chosen-is antecedent left (suc s) (j % T) (omega arith) in
-      ap₂ (λ (u v : List Line). u ++ v) a b ∙ sym (map-append taggedLine (map tag d) rest)
+      ap₂ (λ (u v : List Line). u ++ v) a b ∙ sym (map-append numbersOf (map tag d) rest)
 
   -- the antecedent's rows
   ante-is : (left i : ℕ) → i + left ≤ n → ofSection 0 (linesIn m i left) ≡ map (lineFrom 0) (section 0 (linesIn m i left))
@@ -267,11 +269,11 @@ module _ (m : List ℕ) (n : ℕ) (fair : (i : ℕ) → i < n → Fair (lineIn m
       go false e f = f
 
   -- THE THEOREM: what is built is the antiscenario
-  pub built-is : (k number : ℕ) → built m n k (number - 1) ≡ map taggedLine (written (sheetOf k (linesIn m 0 n)) number)
-  unfolding built written tagged chosen sheetOf taggedLine
+  pub built-is : (k number : ℕ) → built m n k (number - 1) ≡ map numbersOf (written (sheetOf k (linesIn m 0 n)) number)
+  unfolding built written tagged chosen sheetOf lineFrom
   built-is k number =
       let ls = linesIn m 0 n in
       let tag : Row → Tagged = λ r. record { section = 0; row = r } in
       let rest = tagged 1 (choose [] (choices (section 0 ls) 1 (sections 1 k ls)) (number - 1)) in
-      ap₂ (λ (u v : List Line). u ++ v) (ante-is n 0 (omega arith) ∙ sym (map-map taggedLine tag (section 0 ls))) (chosen-is (section 0 ls) k 1 (number - 1) (omega arith))
-      ∙ sym (map-append taggedLine (map tag (section 0 ls)) rest)
+      ap₂ (λ (u v : List Line). u ++ v) (ante-is n 0 (omega arith) ∙ sym (map-map numbersOf tag (section 0 ls))) (chosen-is (section 0 ls) k 1 (number - 1) (omega arith))
+      ∙ sym (map-append numbersOf (map tag (section 0 ls)) rest)

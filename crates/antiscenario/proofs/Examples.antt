@@ -8,16 +8,16 @@ use lib.ListN.{length}
 use Rattle.columns.specs.Number.{fieldAt, numeral, scan}
 use Rattle.columns.specs.Spell.{spell, left, leftByte, lastByte}
 use Rattle.scenario.specs.Rows.{complement, meets, clear, below, between, points, denials, denying-rows, denying-free, end, far-end, closure, brings, elem}
-use Rattle.scenario.specs.Fields.{fields, rowOf, tagged, written}
+use Rattle.scenario.specs.Fields.{fields, decode, tagged, written}
 use Rattle.scenario.specs.Sheet.{lookup, env, all, flat, is-line, matching, count, total, choices, choose, chosen, antiscenario}
 use Rattle.scenario.specs.Log.{inSet, hasAt, tick, nearAt}
 use Rattle.sheet.specs.declared.Line.{Line}
 use Rattle.sheet.specs.Row.{six, lineOf, refusal, sectionFits, refusalWithin, originFits, kindFits, pFits, isDue, ordinary, known, qFits, knownBut, ordinaryBut, bothOrdinary, restFits, setOnly, bothZero, roomFits, enter, advance}
-use Rattle.sheet.specs.Reading.{answer, taken, closing, headOf, rowsFrom, rowBytes, after, sheetOf, section, sections, rowIn, orSame}
-use Rattle.sheet.specs.Text.{sheetText, headText, rowsText, rowText}
+use Rattle.sheet.specs.Reading.{answer, taken, closing, headOf, rowsFrom, rowBytes, after, sheetOf, section, sections, rowIn}
+use Rattle.sheet.specs.Text.{sheetText, headText, rowsText, rowText, numbersOf}
 use Rattle.runlog.specs.Log.{answer as log-answer, taken as log-taken, closing as log-closing, headOf as log-head, linesFrom, lineBytes, lineOf as log-line, logOf}
 use Rattle.antiscenario.specs.declared.Judged.{Judged}
-use Rattle.antiscenario.specs.Build.{lineFrom, taggedLine}
+use Rattle.antiscenario.specs.Build.{lineFrom}
 use Rattle.antiscenario.specs.Write.{writtenLines, writtenText}
 use Rattle.antiscenario.specs.Judge.{refusalOf, judgeOf}
 
@@ -81,9 +81,9 @@ table =
     ∷ []
 
 pub written-examples : map (λ (c : Case). writtenText (c .sheet) (c .number)) table ≡ map (λ (c : Case). c .text) table
-unfolding complement writtenText writtenLines taggedLine lineFrom written tagged fields chosen choose count total choices denials denying-rows denying-free end far-end closure brings elem rowOf
+unfolding complement writtenText writtenLines lineFrom numbersOf written tagged fields chosen choose count total choices denials denying-rows denying-free end far-end closure brings elem decode
     sheetText headText rowsText rowText spell left leftByte lastByte fieldAt numeral scan
-    answer taken closing headOf rowsFrom rowBytes after sheetOf section sections rowIn orSame
+    answer taken closing headOf rowsFrom rowBytes after sheetOf section sections rowIn
     lineOf refusal sectionFits refusalWithin originFits kindFits pFits isDue ordinary known qFits knownBut ordinaryBut bothOrdinary restFits setOnly bothZero roomFits enter advance
 written-examples = refl
 
@@ -154,10 +154,10 @@ judgings =
     ∷ []
 
 pub judged-examples : map (λ (c : Judging). judgeOf (c .sheet) (c .log) (c .number) (c .positions) (c .filled)) judgings ≡ map (λ (c : Judging). c .judged) judgings
-unfolding judgeOf refusalOf antiscenario flat chosen choose count total choices denials denying-rows denying-free end far-end closure brings elem rowOf
+unfolding judgeOf refusalOf antiscenario flat chosen choose count total choices denials denying-rows denying-free end far-end closure brings elem decode
     points matching all is-line meets env lookup clear below between inSet hasAt tick nearAt
     sheetText headText rowsText rowText spell left leftByte lastByte fieldAt numeral scan
-    answer taken closing headOf rowsFrom rowBytes after sheetOf section sections rowIn orSame
+    answer taken closing headOf rowsFrom rowBytes after sheetOf section sections rowIn
     lineOf refusal sectionFits refusalWithin originFits kindFits pFits isDue ordinary known qFits knownBut ordinaryBut bothOrdinary restFits setOnly bothZero roomFits enter advance
     log-answer log-taken log-closing log-head linesFrom lineBytes log-line logOf
 judged-examples = refl

@@ -7,6 +7,7 @@ use Prim.Native.Nat.{ℕ, zero, suc, _+_, _*_, _-_, _/_, _%_, _≤_, _<_}
 use native.Mathlib.Omega.{arith}
 use lib.ListN.{length, getD, replicate}
 use lib.Dec.{eqb, ltb}
+use Rattle.columns.specs.Number.{largest}
 use Rattle.columns.specs.Spell.{fitsIn}
 use Rattle.columns.proofs.Fits.{parts-fit}
 use Rattle.scenario.specs.Rows.{Row, point, next, last, earlier, later, before, apart, same, free, within, outside, event, denying-rows, denying-free, End, start, close, inner, end, far-end, complement}
@@ -17,9 +18,9 @@ use Rattle.sheet.specs.declared.Line.{Line}
 use Rattle.sheet.specs.Row.{refusal}
 use Rattle.sheet.specs.Reading.{rowIn, taken, answer}
 use Rattle.sheet.specs.Memory.{lay, lineIn, linesIn, weighLine, product}
-use Rattle.sheet.specs.Text.{Fits}
+use Rattle.sheet.specs.Text.{Fits, numbersOf}
 use Rattle.sheet.proofs.Theorems.{accepted-rows}
-use Rattle.antiscenario.specs.Build.{lineFrom, uses, marked, wanted, brought, own, denied, denialFrom, chosenFrom, ofSection, built}
+use Rattle.antiscenario.specs.Build.{lineFrom, uses, marked, wanted, brought, own, denied, denialFrom, chosenFrom, ofSection, built, farOf}
 use Rattle.antiscenario.specs.Write.{writtenLines}
 use Rattle.antiscenario.proofs.Choice.{Fair}
 use Rattle.antiscenario.proofs.Accept.{at-line, lines-are, all-fair, all-six, built-written}
@@ -29,27 +30,27 @@ use Rattle.antiscenario.proofs.Accept.{at-line, lines-are, all-fair, al
 pub three : (v : ℕ) → v < 1000 → fitsIn 3 v ≡ true
 three v h = parts-fit 3 v (omega arith) (omega (arith, h))
 
-pub eleven : (v : ℕ) → v ≤ 4294967295 → fitsIn 11 v ≡ true
+pub eleven : (v : ℕ) → v ≤ largest → fitsIn 11 v ≡ true
 eleven v h = parts-fit 11 v (omega arith) (omega (arith, h))
 
 -- The own rows of denials fit
 
 abbrev FitsF : Fields → Type 0
-FitsF f = (f .p < 1000) × (f .q < 1000) × (f .a ≤ 4294967295) × (f .b ≤ 4294967295)
+FitsF f = (f .p < 1000) × (f .q < 1000) × (f .a ≤ largest) × (f .b ≤ largest)
 
 module _ (s z r : ℕ) (hs : s < 1000) (hz : z < 1000) (hr : r < 1000) where
   abbrev Own : List (List Row) → Type 0
   Own = All (All (λ (x : Row). Fits (lineFrom s x)))
 
-  point-fits : (p a : ℕ) → p < 1000 → a ≤ 4294967295 → Fits (lineFrom s (point p a))
-  unfolding lineFrom fields
+  point-fits : (p a : ℕ) → p < 1000 → a ≤ largest → Fits (lineFrom s (point p a))
+  unfolding lineFrom numbersOf fields
   point-fits p a hp ha = record { section = hs; kind = omega arith; p = hp; q = omega arith; a = ha; b = omega arith }
 
   before-fits : (p q : ℕ) → p < 1000 → q < 1000 → Fits (lineFrom s (before p q))
-  unfolding lineFrom fields
+  unfolding lineFrom numbersOf fields
   before-fits p q hp hq = record { section = hs; kind = omega arith; p = hp; q = hq; a = omega arith; b = omega arith }
 
-  free-fits : (p q a : ℕ) → p < 1000 → q < 1000 → a ≤ 4294967295 → (x y : End) → Own (denying-free r p q a x y)
+  free-fits : (p q a : ℕ) → p < 1000 → q < 1000 → a ≤ largest → (x y : End) → Own (denying-free r p q a x y)
   unfolding denying-free
   free-fits p q a hp hq ha start start = tt
   free-fits p q a hp hq ha start close = ((point-fits r a hr ha, tt), tt)
@@ -62,7 +63,7 @@ module _ (s z r : ℕ) (hs : s < 1000) (hz : z < 1000) (hr : r < 1000) where
   free-fits p q a hp hq ha inner inner = ((point-fits r a hr ha, (before-fits p r hp hr, (before-fits r q hr hq, tt))), ((point-fits r a hr ha, (before-fits q r hq hr, (before-fits r p hr hp, tt))), tt))
 
   deny-fits : (x : Row) → FitsF (fields x) → Own (denying-rows z r x)
-  unfolding denying-rows fields lineFrom complement
+  unfolding denying-rows fields lineFrom numbersOf complement
   deny-fits (point p a) F = tt
   deny-fits (next p q a) F = ((record { section = hs; kind = omega arith; p = F .1; q = hz; a = F .2; b = omega arith }, tt), tt)
   deny-fits (last p q a) F = ((record { section = hs; kind = omega arith; p = hz; q = F .1; a = F .2; b = omega arith }, tt), tt)
@@ -100,7 +101,7 @@ all-lines : (s : ℕ) (d : List Row) → All (λ (x : Row). Fits (lineFrom s x))
 all-lines s [] A = tt
 all-lines s (x ∷ d) A = (A .0, all-lines s d (A .1))
 
-own-fits : (l : Line) (v : ℕ) → Fits l → Fair l → l .section ≤ 6 → All Fits (own l v)
+own-fits : (l : Line) (v : ℕ) → Fits l → Fair l → l .section ≤ 6 → All Fits (own (farOf l) l v)
 unfolding own
 own-fits l v F G h =
     all-lines (l .section) (getD (denying-rows (far-end [] [] (rowIn l)) (10 * l .section + 9) (rowIn l)) v [])
@@ -127,7 +128,7 @@ module _ (m : List ℕ) (n : ℕ) (plain : (i : ℕ) → i < n → Plain (lineIn
   denied-fits : (i v : ℕ) → i < n → All Fits (denied m i v)
   unfolding denied
   denied-fits i v h =
-      all-append Fits (brought m (lineIn m i .section) (marked (replicate 100 0) (uses (lineIn m i))) i) (own (lineIn m i) v)
+      all-append Fits (brought m (lineIn m i .section) (marked (replicate 100 0) (uses (lineIn m i))) i) (own (farOf (lineIn m i)) (lineIn m i) v)
       (brought-fits (lineIn m i .section) i (marked (replicate 100 0) (uses (lineIn m i))) (omega arith)) (own-fits (lineIn m i) v (plain i h .fits) (plain i h .fair) (plain i h .section))
 
   denial-fits : (s left i j : ℕ) → i + left ≤ n → All Fits (denialFrom m s i left j)

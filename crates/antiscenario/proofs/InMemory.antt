@@ -2,7 +2,7 @@
 -- Assumes nothing.
 use mathlib.Core.Path.{_≡_, refl, sym, ap, ap₂, _∙_, subst}
 use mathlib.Core.List.{List, [], _∷_, _++_, map}
-use Prim.Native.Nat.{ℕ, zero, suc, _+_, _*_, _-_, _≤_}
+use Prim.Native.Nat.{ℕ, suc, _+_, _*_, _-_, _≤_}
 use native.Mathlib.Omega.{arith}
 use lib.ListN.{length}
 use Rattle.scenario.specs.Rows.{Row, points}
@@ -12,42 +12,34 @@ use Rattle.scenario.specs.Reading.{Pattern}
 use Rattle.scenario.proofs.Patterns.{antiscenario-pattern, antiscenario-few-points, antiscenario-few-rows}
 use Rattle.sheet.specs.declared.Line.{Line}
 use Rattle.sheet.specs.declared.Answer.{Answer}
-use Rattle.sheet.specs.Reading.{sheetIn, countIn, taken, answer}
-use Rattle.sheet.specs.Memory.{lay, lineIn, linesIn}
+use Rattle.sheet.specs.Reading.{sheetIn, countIn, rowIn, taken, answer}
+use Rattle.sheet.specs.Memory.{lay, rowAt, rowsOf}
+use Rattle.sheet.proofs.Memory.{listed-lines}
 use Rattle.sheet.proofs.Theorems.{accepted-sheet}
-use Rattle.pattern.specs.Decode.{decode, rowAt, listed, rowsOf}
-use Rattle.pattern.proofs.Rows.{decode-fields}
-use Rattle.antiscenario.specs.Build.{lineFrom, taggedLine, built}
+use Rattle.scenario.proofs.Numbers.{decode-fields}
+use Rattle.sheet.specs.Text.{numbersOf}
+use Rattle.antiscenario.specs.Build.{built}
 use Rattle.antiscenario.specs.Write.{writtenLines}
 use Rattle.antiscenario.proofs.Writing.{n-few, out-room, out-is}
 
-abbrev rowFrom : Line → Row
-rowFrom l = decode (l .kind) (l .p) (l .q) (l .a) (l .b)
-
--- rows in memory are those of its lines
-rows-lines : (m : List ℕ) (left j : ℕ) → listed (rowAt m) j left ≡ map rowFrom (linesIn m j left)
-unfolding listed linesIn rowAt lineIn
-rows-lines m zero j = refl
-rows-lines m (suc left) j = ap (λ (rs : List Row). rowAt m j ∷ rs) (rows-lines m left (suc j))
-
 -- the rows of written lines are those that were written
-rows-append : (xs ys : List Row) (s : ℕ) (ts : List Line) → map rowFrom ts ≡ ys → map rowFrom (map taggedLine (map (λ (r : Row). record { section = s; row = r }) xs) ++ ts) ≡ xs ++ ys
-unfolding taggedLine lineFrom
+rows-append : (xs ys : List Row) (s : ℕ) (ts : List Line) → map rowIn ts ≡ ys → map rowIn (map numbersOf (map (λ (r : Row). record { section = s; row = r }) xs) ++ ts) ≡ xs ++ ys
+unfolding numbersOf rowIn
 rows-append [] ys s ts h = h
 rows-append (x ∷ xs) ys s ts h = ap₂ (λ (r : Row) (rs : List Row). r ∷ rs) (decode-fields x) (rows-append xs ys s ts h)
 
-map-both : (a b : List Tagged) → map taggedLine (a ++ b) ≡ map taggedLine a ++ map taggedLine b
+map-both : (a b : List Tagged) → map numbersOf (a ++ b) ≡ map numbersOf a ++ map numbersOf b
 map-both [] b = refl
-map-both (x ∷ a) b = ap (λ (l : List Line). taggedLine x ∷ l) (map-both a b)
+map-both (x ∷ a) b = ap (λ (l : List Line). numbersOf x ∷ l) (map-both a b)
 
-rows-tagged : (cs : List (List Row)) (i : ℕ) → map rowFrom (map taggedLine (tagged i cs)) ≡ flat cs
+rows-tagged : (cs : List (List Row)) (i : ℕ) → map rowIn (map numbersOf (tagged i cs)) ≡ flat cs
 unfolding tagged flat
 rows-tagged [] i = refl
 rows-tagged (c ∷ cs) i =
-    ap (map rowFrom) (map-both (map (λ (r : Row). record { section = i; row = r }) c) (tagged (suc i) cs))
-    ∙ rows-append c (flat cs) i (map taggedLine (tagged (suc i) cs)) (rows-tagged cs (suc i))
+    ap (map rowIn) (map-both (map (λ (r : Row). record { section = i; row = r }) c) (tagged (suc i) cs))
+    ∙ rows-append c (flat cs) i (map numbersOf (tagged (suc i) cs)) (rows-tagged cs (suc i))
 
-rows-written : (sheet : Sheet) (m : ℕ) → map rowFrom (map taggedLine (written sheet m)) ≡ antiscenario sheet m
+rows-written : (sheet : Sheet) (m : ℕ) → map rowIn (map numbersOf (written sheet m)) ≡ antiscenario sheet m
 unfolding written antiscenario flat
 rows-written sheet m = rows-tagged (sheet .antecedent ∷ chosen sheet m) 0
 
@@ -55,8 +47,8 @@ rows-written sheet m = rows-tagged (sheet .antecedent ∷ chosen sheet m) 0
 module _ (s : List ℕ) (m : ℕ) (r : Answer) (e : r ≡ answer s) (z : r .refusal ≡ 0) (mem m₀ : List ℕ) (room : 1056 ≤ length m₀) (f : mem ≡ lay 0 (taken s .lines) m₀)
     (out o₀ : List ℕ) (n : ℕ) (big : 1200 ≤ length o₀) (g : n ≡ length (built mem (r .rows) (r .k) (m - 1))) (h : out ≡ lay 0 (built mem (r .rows) (r .k) (m - 1)) o₀) where
   pub rows-built : rowsOf out n ≡ antiscenario (sheetIn s) m
-  unfolding rowsOf writtenLines
-  rows-built = rows-lines out n 0 ∙ ap (map rowFrom) (out-is s m r e z mem m₀ room f out o₀ n big g h) ∙ rows-written (sheetIn s) m
+  unfolding rowsOf rowAt writtenLines
+  rows-built = listed-lines rowIn out n 0 ∙ ap (map rowIn) (out-is s m r e z mem m₀ room f out o₀ n big g h) ∙ rows-written (sheetIn s) m
 
   pub rows-at-most : n ≤ 194
   rows-at-most = n-few s m r e z mem m₀ room f out o₀ n big g h
@@ -72,7 +64,7 @@ module _ (s : List ℕ) (m : ℕ) (r : Answer) (e : r ≡ answer s) (z : r .refu
       (antiscenario-pattern (sheetIn s) (accepted-sheet s a .read) m lo (omega (arith, c, ap (λ (q : Answer). q .count) e, accepted-sheet s a .count)))
 
 -- As many lines are written as the antiscenario has rows
-lines-rows : (ls : List Line) → length (map rowFrom ls) ≡ length ls
+lines-rows : (ls : List Line) → length (map rowIn ls) ≡ length ls
 lines-rows [] = refl
 lines-rows (l ∷ ls) = ap suc (lines-rows ls)
 

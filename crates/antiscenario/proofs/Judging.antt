@@ -11,11 +11,10 @@ use Rattle.scenario.specs.Log.{runOf}
 use Rattle.scenario.specs.Sheet.{antiscenario, matching}
 use Rattle.sheet.specs.declared.Answer.{Answer as SheetAnswer}
 use Rattle.sheet.specs.Reading.{answer as sheet-answer, taken, sheetIn, countIn}
-use Rattle.sheet.specs.Memory.{lay}
+use Rattle.sheet.specs.Memory.{lay, rowsOf}
 use Rattle.runlog.specs.declared.Answer.{Answer as LogAnswer}
 use Rattle.runlog.specs.Log.{answer as log-answer, runIn}
 use Rattle.runlog.specs.Held.{Held, Loaded, runAt}
-use Rattle.pattern.specs.Decode.{rowsOf}
 use Rattle.antiscenario.specs.declared.Judged.{Judged}
 use Rattle.antiscenario.specs.Build.{built}
 use Rattle.antiscenario.specs.Judge.{refusalOf, Ready, unjudged, judgeOf}

@@ -3,20 +3,14 @@
 use mathlib.Core.Path.{_≡_, refl, sym, ap, _∙_, subst}
 use mathlib.Core.Bool.{Bool, true, false, cond}
 use mathlib.Core.List.{List, [], _∷_, _++_}
-use Prim.Native.Nat.{ℕ, zero, suc, _+_, _*_, _-_, _≤_}
+use Prim.Native.Nat.{ℕ, zero, suc, _+_, _-_, _≤_}
 use native.Mathlib.Omega.{arith}
-use lib.ListN.{length, getD, set, length-append, length-set}
+use lib.ListN.{length, length-append, length-set}
 use lib.Dec.{eqb}
 use borrow.Author.Tests.{ne-eqb, eqb-true, eqb-false}
 use Rattle.sheet.specs.declared.Line.{Line}
-use Rattle.sheet.specs.Memory.{put, lay, lineIn}
+use Rattle.sheet.specs.Memory.{put, lay, sectionAt, lineIn}
 use Rattle.antiscenario.specs.Build.{NoneBefore, uses, marked, wanted, brought}
-
--- past the end nothing is stored
-pub set-past : (m : List ℕ) (i v : ℕ) → length m ≤ i → m ≡ set m i v
-set-past [] i v h = refl
-set-past (x ∷ m) zero v h = absurd (omega arith)
-set-past (x ∷ m) (suc i) v h = ap (λ (l : List ℕ). x ∷ l) (set-past m i v (omega arith))
 
 -- rows after rows
 pub lay-append : (xs ys : List Line) (i : ℕ) (m : List ℕ) → lay i (xs ++ ys) m ≡ lay (i + length xs) ys (lay i xs m)
@@ -42,12 +36,12 @@ lay-length (l ∷ ls) i m = lay-length ls (suc i) (put i l m) ∙ put-length i l
 -- The rows that a denial brings
 
 module _ (m : List ℕ) (s : ℕ) where
-  pub none-more : (i : ℕ) → NoneBefore m s i → (getD m (6 * i) 0 ≡ s → ⊥) → NoneBefore m s (i + 1)
+  pub none-more : (i : ℕ) → NoneBefore m s i → (sectionAt m i ≡ s → ⊥) → NoneBefore m s (i + 1)
   unfolding lineIn
   none-more i f n k h e = go (eqb k i) refl
     where
       go : (b : Bool) → eqb k i ≡ b → ⊥
-      go true t = n (subst (λ (j : ℕ). getD m (6 * j) 0 ≡ s) (eqb-true k i t) e)
+      go true t = n (subst (λ (j : ℕ). sectionAt m j ≡ s) (eqb-true k i t) e)
       go false t = let z = eqb-false k i t in f k (omega arith) e
 
   pub brought-none : (marks : List ℕ) (i : ℕ) → i ≡ 0 → brought m s marks i ≡ []

@@ -8,72 +8,73 @@ use native.Mathlib.Omega.{arith}
 use lib.ListN.{length, getD}
 use lib.Dec.{eqb}
 use borrow.Author.Tests.{eqb-true, eqb-false, eq-eqb, ne-eqb}
-use Rattle.scenario.specs.Rows.{denying-rows, denying-free, end, far-end, complement}
-use Rattle.scenario.specs.Fields.{fields, rowOf}
+use Rattle.scenario.specs.Rows.{denying-rows, denying-free, end, far-end, complement, full-set}
+use Rattle.scenario.specs.Fields.{fields, decode}
 use Rattle.sheet.specs.declared.Line.{Line}
 use Rattle.sheet.specs.Row.{six}
-use Rattle.sheet.specs.Reading.{rowIn, orSame}
+use Rattle.sheet.specs.Reading.{rowIn}
 use Rattle.sheet.specs.Memory.{put, lay, edge, weight, weightFree}
-use Rattle.sheet.proofs.Count.{weight-6, weight-low, weight-high}
-use Rattle.sheet.proofs.Denials.{any-kind}
-use Rattle.antiscenario.specs.Build.{own, lineFrom, beforeOf, insideOf}
+use Rattle.sheet.proofs.Count.{weight-6, weight-9, weight-low, weight-high}
+use Rattle.scenario.proofs.Numbers.{any-kind}
+use Rattle.sheet.specs.Text.{numbersOf}
+use Rattle.antiscenario.specs.Build.{farOf, own, freeRows, lineFrom, beforeOf, insideOf}
 
 -- one denial has number 0
 only : (v k p q : ℕ) → v < weight k p q → 1 ≡ weight k p q → v ≡ 0
 only v k p q h e = omega arith
 
-module _ (l : Line) (v : ℕ) (h : v < weight (l .kind) (l .p) (l .q)) where
+module _ (far : ℕ) (l : Line) (v : ℕ) (h : v < weight (l .kind) (l .p) (l .q)) where
   low : (l .kind ≡ 1 → ⊥) → l .kind < 4 → v ≡ 0
   low n k = only v (l .kind) (l .p) (l .q) h (weight-low (l .kind) (l .p) (l .q) n k)
 
   high : 6 ≤ l .kind → (l .kind ≡ 6 → ⊥) → (l .kind ≡ 9 → ⊥) → v ≡ 0
   high k n m = only v (l .kind) (l .p) (l .q) h (weight-high (l .kind) (l .p) (l .q) k n m)
 
-  pub own-2 : l .kind ≡ 2 → own l v ≡ six (l .section) 9 (l .q) 99 (l .a) 0 ∷ []
-  unfolding own rowIn orSame rowOf denying-rows far-end fields lineFrom
+  pub own-2 : l .kind ≡ 2 → own far l v ≡ six (l .section) 9 (l .q) far (l .a) 0 ∷ []
+  unfolding own rowIn decode denying-rows fields lineFrom numbersOf
   own-2 e = let z = low (λ x. omega arith) (omega arith) in rw (e, z)
 
-  pub own-3 : l .kind ≡ 3 → own l v ≡ six (l .section) 9 0 (l .q) (l .a) 0 ∷ []
-  unfolding own rowIn orSame rowOf denying-rows far-end fields lineFrom
+  pub own-3 : l .kind ≡ 3 → own far l v ≡ six (l .section) 9 far (l .q) (l .a) 0 ∷ []
+  unfolding own rowIn decode denying-rows fields lineFrom numbersOf
   own-3 e = let z = low (λ x. omega arith) (omega arith) in rw (e, z)
 
-  pub own-6 : l .kind ≡ 6 → own l v ≡ beforeOf (l .section) (l .p) (l .q) v ∷ []
-  unfolding own rowIn orSame rowOf denying-rows far-end fields lineFrom
+  pub own-6 : l .kind ≡ 6 → own far l v ≡ beforeOf (l .section) (l .p) (l .q) v ∷ []
+  unfolding own rowIn decode denying-rows fields lineFrom numbersOf
   own-6 e = go v (subst (λ (w : ℕ). v < w) (sym (weight-6 (l .kind) (l .p) (l .q) e)) h)
     where
-      go : (v : ℕ) → v < 2 → own l v ≡ beforeOf (l .section) (l .p) (l .q) v ∷ []
+      go : (v : ℕ) → v < 2 → own far l v ≡ beforeOf (l .section) (l .p) (l .q) v ∷ []
       go zero h = rw e
       go (suc zero) h = rw e
       go (suc (suc v)) h = absurd (omega arith)
 
-  pub own-7 : l .kind ≡ 7 → own l v ≡ six (l .section) 8 (l .p) (l .q) 0 0 ∷ []
-  unfolding own rowIn orSame rowOf denying-rows far-end fields lineFrom
+  pub own-7 : l .kind ≡ 7 → own far l v ≡ six (l .section) 8 (l .p) (l .q) 0 0 ∷ []
+  unfolding own rowIn decode denying-rows fields lineFrom numbersOf
   own-7 e = let z = high (omega arith) (λ x. omega arith) (λ x. omega arith) in rw (e, z)
 
-  pub own-8 : l .kind ≡ 8 → own l v ≡ six (l .section) 7 (l .p) (l .q) 0 0 ∷ []
-  unfolding own rowIn orSame rowOf denying-rows far-end fields lineFrom
+  pub own-8 : l .kind ≡ 8 → own far l v ≡ six (l .section) 7 (l .p) (l .q) 0 0 ∷ []
+  unfolding own rowIn decode denying-rows fields lineFrom numbersOf
   own-8 e = let z = high (omega arith) (λ x. omega arith) (λ x. omega arith) in rw (e, z)
 
-  pub own-10 : l .kind ≡ 10 → own l v ≡ six (l .section) 11 (l .p) (l .q) (l .a) (l .b) ∷ []
-  unfolding own rowIn orSame rowOf denying-rows far-end fields lineFrom
+  pub own-10 : l .kind ≡ 10 → own far l v ≡ six (l .section) 11 (l .p) (l .q) (l .a) (l .b) ∷ []
+  unfolding own rowIn decode denying-rows fields lineFrom numbersOf
   own-10 e = let z = high (omega arith) (λ x. omega arith) (λ x. omega arith) in rw (e, z)
 
-  pub own-11 : l .kind ≡ 11 → own l v ≡ six (l .section) 10 (l .p) (l .q) (l .a) (l .b) ∷ []
-  unfolding own rowIn orSame rowOf denying-rows far-end fields lineFrom
+  pub own-11 : l .kind ≡ 11 → own far l v ≡ six (l .section) 10 (l .p) (l .q) (l .a) (l .b) ∷ []
+  unfolding own rowIn decode denying-rows fields lineFrom numbersOf
   own-11 e = let z = high (omega arith) (λ x. omega arith) (λ x. omega arith) in rw (e, z)
 
-  pub own-12 : l .kind ≡ 12 → own l v ≡ six (l .section) 12 (l .p) 0 (4294967295 - l .a) 0 ∷ []
-  unfolding own rowIn orSame rowOf denying-rows far-end fields lineFrom complement
+  pub own-12 : l .kind ≡ 12 → own far l v ≡ six (l .section) 12 (l .p) 0 (full-set - l .a) 0 ∷ []
+  unfolding own rowIn decode denying-rows fields lineFrom numbersOf complement
   own-12 e = let z = high (omega arith) (λ x. omega arith) (λ x. omega arith) in rw (e, z)
 
 -- kinds that no accepted row has, and those without denials
-module _ (s p q a b v : ℕ) where
+module _ (far s p q a b v : ℕ) where
   abbrev Other : ℕ → Type 0
   Other k = (k ≡ 2 → ⊥) → (k ≡ 3 → ⊥) → (k ≡ 6 → ⊥) → (k ≡ 7 → ⊥) → (k ≡ 8 → ⊥) → (k ≡ 9 → ⊥) → (k ≡ 10 → ⊥) → (k ≡ 11 → ⊥) → (k ≡ 12 → ⊥)
-      → v < weight k p q → own (six s k p q a b) v ≡ six s 7 0 0 0 0 ∷ []
+      → v < weight k p q → own far (six s k p q a b) v ≡ six s 8 0 0 0 0 ∷ []
 
   other : (k : ℕ) → Other k
-  unfolding own rowIn orSame rowOf denying-rows far-end fields lineFrom weight
+  unfolding own rowIn decode denying-rows fields lineFrom numbersOf weight
   other =
       any-kind Other
       (λ n2 n3 n6 n7 n8 n9 n10 n11 n12 h. let z : v ≡ 0 = omega arith in rw z)
@@ -92,22 +93,15 @@ module _ (s p q a b v : ℕ) where
       (λ k n2 n3 n6 n7 n8 n9 n10 n11 n12 h.
       let z : v ≡ 0 = only v (suc (suc (suc (suc (suc (suc (suc (suc (suc (suc (suc (suc (suc k))))))))))))) p q h (weight-high (suc (suc (suc (suc (suc (suc (suc (suc (suc (suc (suc (suc (suc k))))))))))))) p q (omega arith) n6 n9) in rw z)
 
-pub own-other : (l : Line) (v : ℕ) → (l .kind ≡ 2 → ⊥) → (l .kind ≡ 3 → ⊥) → (l .kind ≡ 6 → ⊥) → (l .kind ≡ 7 → ⊥) → (l .kind ≡ 8 → ⊥) → (l .kind ≡ 9 → ⊥)
-    → (l .kind ≡ 10 → ⊥) → (l .kind ≡ 11 → ⊥) → (l .kind ≡ 12 → ⊥) → v < weight (l .kind) (l .p) (l .q) → own l v ≡ six (l .section) 7 0 0 0 0 ∷ []
-own-other l v = other (l .section) (l .p) (l .q) (l .a) (l .b) v (l .kind)
+pub own-other : (far : ℕ) (l : Line) (v : ℕ) → (l .kind ≡ 2 → ⊥) → (l .kind ≡ 3 → ⊥) → (l .kind ≡ 6 → ⊥) → (l .kind ≡ 7 → ⊥) → (l .kind ≡ 8 → ⊥) → (l .kind ≡ 9 → ⊥)
+    → (l .kind ≡ 10 → ⊥) → (l .kind ≡ 11 → ⊥) → (l .kind ≡ 12 → ⊥) → v < weight (l .kind) (l .p) (l .q) → own far l v ≡ six (l .section) 8 0 0 0 0 ∷ []
+own-other far l v = other far (l .section) (l .p) (l .q) (l .a) (l .b) v (l .kind)
 
 -- FREE
-abbrev pub freeRows : (s r p q a v : ℕ) → List Line
-freeRows s r p q a v =
-    six s 1 r 0 a 0
-    ∷ cond (edge p) (cond (edge q) [] (insideOf s r p q ∷ []))
-    (cond (edge q) (insideOf s r q p ∷ [])
-    (cond (eqb v 0) (six s 6 p r 0 0 ∷ six s 6 r q 0 0 ∷ []) (six s 6 q r 0 0 ∷ six s 6 r p 0 0 ∷ [])))
-
 module _ (s r p q a : ℕ) where
   free-go : (x y z w : Bool) → eqb p 0 ≡ x → eqb p 99 ≡ y → eqb q 0 ≡ z → eqb q 99 ≡ w → (v : ℕ) → v < weightFree p q
       → map (lineFrom s) (getD (denying-free r p q a (end p) (end q)) v []) ≡ freeRows s r p q a v
-  unfolding denying-free end weightFree edge lineFrom fields
+  unfolding denying-free end weightFree edge lineFrom numbersOf fields
   free-go true y true w ep fp eq fq v h = let e : weightFree p q ≡ 0 = rw (eqb-true p 0 ep, eqb-true q 0 eq) in absurd (omega arith)
   free-go true y false true ep fp eq fq zero h = rw (eqb-true p 0 ep, eqb-true q 99 fq)
   free-go true y false true ep fp eq fq (suc v) h = let e : weightFree p q ≡ 1 = rw (eqb-true p 0 ep, eqb-true q 99 fq) in absurd (omega arith)
@@ -126,9 +120,9 @@ module _ (s r p q a : ℕ) where
   free-go false false false false ep fp eq fq (suc zero) h = simp (ep, fp, eq, fq)
   free-go false false false false ep fp eq fq (suc (suc v)) h = let e : weightFree p q ≡ 2 = simp (ep, fp, eq, fq) in absurd (omega arith)
 
-pub own-9 : (l : Line) (v : ℕ) → l .kind ≡ 9 → v < weightFree (l .p) (l .q) → own l v ≡ freeRows (l .section) (10 * l .section + 9) (l .p) (l .q) (l .a) v
-unfolding own rowIn orSame rowOf denying-rows far-end
-own-9 l v e h =
+pub own-9 : (far : ℕ) (l : Line) (v : ℕ) → l .kind ≡ 9 → v < weightFree (l .p) (l .q) → own far l v ≡ freeRows (l .section) (10 * l .section + 9) (l .p) (l .q) (l .a) v
+unfolding own rowIn decode denying-rows
+own-9 far l v e h =
     rw e (free-go (l .section) (10 * l .section + 9) (l .p) (l .q) (l .a) (eqb (l .p) 0) (eqb (l .p) 99) (eqb (l .q) 0) (eqb (l .q) 99) refl refl refl refl v h)
 
 -- at most three rows
@@ -161,24 +155,51 @@ module _ (at : ℕ) (out : List ℕ) where
       rw e (omega arith, rw n (rw n' (p'' ∙ ap (put (at + 2) z) (p' ∙ ap (put (at + 1) y) p))))
 
 -- FREE's own rows, by its ends
-module _ (l : Line) (v : ℕ) (k : l .kind ≡ 9) (h : v < weightFree (l .p) (l .q)) where
+module _ (l : Line) (v : ℕ) where
   abbrev spare : ℕ
   spare = 10 * l .section + 9
 
   abbrev first : Line
   first = six (l .section) 1 spare 0 (l .a) 0
 
-  pub free-1 : edge (l .p) ≡ true → edge (l .q) ≡ true → own l v ≡ first ∷ []
-  free-1 e f = own-9 l v k h ∙ simp (e, f)
+  pub free-1 : edge (l .p) ≡ true → edge (l .q) ≡ true → freeRows (l .section) spare (l .p) (l .q) (l .a) v ≡ first ∷ []
+  free-1 e f = simp (e, f)
 
-  pub free-2 : edge (l .p) ≡ true → edge (l .q) ≡ false → own l v ≡ first ∷ insideOf (l .section) spare (l .p) (l .q) ∷ []
-  free-2 e f = own-9 l v k h ∙ simp (e, f)
+  pub free-2 : edge (l .p) ≡ true → edge (l .q) ≡ false → freeRows (l .section) spare (l .p) (l .q) (l .a) v ≡ first ∷ insideOf (l .section) spare (l .p) (l .q) ∷ []
+  free-2 e f = simp (e, f)
 
-  pub free-3 : edge (l .p) ≡ false → edge (l .q) ≡ true → own l v ≡ first ∷ insideOf (l .section) spare (l .q) (l .p) ∷ []
-  free-3 e f = own-9 l v k h ∙ simp (e, f)
+  pub free-3 : edge (l .p) ≡ false → edge (l .q) ≡ true → freeRows (l .section) spare (l .p) (l .q) (l .a) v ≡ first ∷ insideOf (l .section) spare (l .q) (l .p) ∷ []
+  free-3 e f = simp (e, f)
 
-  pub free-4 : edge (l .p) ≡ false → edge (l .q) ≡ false → v ≡ 0 → own l v ≡ first ∷ six (l .section) 6 (l .p) spare 0 0 ∷ six (l .section) 6 spare (l .q) 0 0 ∷ []
-  free-4 e f z = own-9 l v k h ∙ simp (e, f, eq-eqb v 0 z)
+  pub free-4 : edge (l .p) ≡ false → edge (l .q) ≡ false → v ≡ 0 → freeRows (l .section) spare (l .p) (l .q) (l .a) v ≡ first ∷ six (l .section) 6 (l .p) spare 0 0 ∷ six (l .section) 6 spare (l .q) 0 0 ∷ []
+  free-4 e f z = simp (e, f, eq-eqb v 0 z)
 
-  pub free-5 : edge (l .p) ≡ false → edge (l .q) ≡ false → (v ≡ 0 → ⊥) → own l v ≡ first ∷ six (l .section) 6 (l .q) spare 0 0 ∷ six (l .section) 6 spare (l .p) 0 0 ∷ []
-  free-5 e f z = own-9 l v k h ∙ simp (e, f, ne-eqb v 0 z)
+  pub free-5 : edge (l .p) ≡ false → edge (l .q) ≡ false → (v ≡ 0 → ⊥) → freeRows (l .section) spare (l .p) (l .q) (l .a) v ≡ first ∷ six (l .section) 6 (l .q) spare 0 0 ∷ six (l .section) 6 spare (l .p) 0 0 ∷ []
+  free-5 e f z = simp (e, f, ne-eqb v 0 z)
+
+-- stored, they are the own rows of a row of kind 9
+pub free-own : (far : ℕ) (l : Line) (v at r : ℕ) (out o : List ℕ) → l .kind ≡ 9 → v < weight (l .kind) (l .p) (l .q)
+    → r ≡ at + length (freeRows (l .section) (10 * l .section + 9) (l .p) (l .q) (l .a) v) → o ≡ lay at (freeRows (l .section) (10 * l .section + 9) (l .p) (l .q) (l .a) v) out
+    → (r ≡ at + length (own far l v)) × (o ≡ lay at (own far l v) out)
+free-own far l v at r out o k h e f =
+    let q = own-9 far l v k (subst (λ (w : ℕ). v < w) (sym (weight-9 (l .kind) (l .p) (l .q) k)) h) in
+    (e ∙ ap (λ (ls : List Line). at + length ls) (sym q), f ∙ ap (λ (ls : List Line). lay at ls out) (sym q))
+
+-- The far end
+module _ (p q a b : ℕ) where
+  abbrev Near : ℕ → Type 0
+  Near k = (k ≡ 2 → ⊥) → 0 ≡ far-end [] [] (decode k p q a b)
+
+  near : (k : ℕ) → Near k
+  unfolding decode far-end
+  near =
+      any-kind Near (λ n. refl) (λ n. refl) (λ n. absurd (n refl)) (λ n. refl) (λ n. refl) (λ n. refl) (λ n. refl) (λ n. refl) (λ n. refl) (λ n. refl) (λ n. refl) (λ n. refl) (λ n. refl)
+      (λ k n. refl)
+
+pub far-next : (l : Line) → l .kind ≡ 2 → 99 ≡ farOf l
+unfolding rowIn decode far-end
+far-next l e = rw e
+
+pub far-other : (l : Line) → (l .kind ≡ 2 → ⊥) → 0 ≡ farOf l
+unfolding rowIn
+far-other l n = near (l .p) (l .q) (l .a) (l .b) (l .kind) n

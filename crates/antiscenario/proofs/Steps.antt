@@ -10,12 +10,12 @@ use native.Mathlib.Omega.{arith}
 use lib.ListN.{length, getD, length-append, length-map, replicate}
 use lib.Dec.{eqb, ltb}
 use borrow.Author.Tests.{lt-ltb, le-ltb, eq-eqb, ne-eqb, eqb-true}
-use Rattle.scenario.specs.Rows.{Row, point, next, last, earlier, later, before, apart, same, free, within, outside, event, denying-rows, denying-free, End, start, close, inner, end, far-end}
+use Rattle.scenario.specs.Rows.{Row, point, next, last, earlier, later, before, apart, same, free, within, outside, event, denying-rows, denying-free, End, start, close, inner, end}
 use Rattle.scenario.specs.Reading.{All}
 use Rattle.sheet.specs.declared.Line.{Line}
 use Rattle.sheet.specs.Reading.{rowIn}
 use Rattle.sheet.specs.Memory.{put, lay, lineIn, linesIn, weight, weighLine, weighed, product}
-use Rattle.antiscenario.specs.Build.{NoneBefore, uses, marked, brought, lineFrom, own, denied, denialFrom, chosenFrom, ofSection, built}
+use Rattle.antiscenario.specs.Build.{NoneBefore, uses, marked, brought, lineFrom, own, denied, denialFrom, chosenFrom, ofSection, built, farOf}
 use Rattle.antiscenario.proofs.Laws.{lay-append, brought-short}
 
 -- A denial's own rows are at most three
@@ -55,11 +55,11 @@ row-own z s (within p q lo hi) = (omega arith, tt)
 row-own z s (outside p q lo hi) = (omega arith, tt)
 row-own z s (event p a) = (omega arith, tt)
 
-pub own-short : (l : Line) (v : ℕ) → length (own l v) ≤ 3
+pub own-short : (far : ℕ) (l : Line) (v : ℕ) → length (own far l v) ≤ 3
 unfolding own
-own-short l v =
-    let d = getD (denying-rows (far-end [] [] (rowIn l)) (10 * l .section + 9) (rowIn l)) v [] in
-    let h : length d ≤ 3 = all-getD Short [] (denying-rows (far-end [] [] (rowIn l)) (10 * l .section + 9) (rowIn l)) (row-own (far-end [] [] (rowIn l)) (10 * l .section + 9) (rowIn l)) (omega arith) v in
+own-short far l v =
+    let d = getD (denying-rows far (10 * l .section + 9) (rowIn l)) v [] in
+    let h : length d ≤ 3 = all-getD Short [] (denying-rows far (10 * l .section + 9) (rowIn l)) (row-own far (10 * l .section + 9) (rowIn l)) (omega arith) v in
     omega (arith, h, length-map d (lineFrom (l .section)))
 
 pub denied-short : (m : List ℕ) (i v : ℕ) → length (denied m i v) ≤ i + 3
@@ -67,9 +67,9 @@ unfolding denied
 denied-short m i v =
     omega (
       arith,
-      length-append (brought m (lineIn m i .section) (marked (replicate 100 0) (uses (lineIn m i))) i) (own (lineIn m i) v),
+      length-append (brought m (lineIn m i .section) (marked (replicate 100 0) (uses (lineIn m i))) i) (own (farOf (lineIn m i)) (lineIn m i) v),
       brought-short m (lineIn m i .section) i (marked (replicate 100 0) (uses (lineIn m i))),
-      own-short (lineIn m i) v,
+      own-short (farOf (lineIn m i)) (lineIn m i) v,
     )
 
 pub denial-short : (m : List ℕ) (s left i j : ℕ) → length (denialFrom m s i left j) ≤ i + left + 3
@@ -242,15 +242,15 @@ module _ (m : List ℕ) (i v : ℕ) (line : Line) (l : line ≡ lineIn m i) wher
   pub row-section : lineIn m i .section ≤ 100 → line .section ≤ 100
   row-section h = subst (λ (x : Line). x .section ≤ 100) (sym l) h
 
-  pub row-done : (at end r : ℕ) (marks out out' o : List ℕ) → marks ≡ marked (replicate 100 0) (uses line) → end ≡ at + length (brought m (line .section) marks i)
-      → out' ≡ lay at (brought m (line .section) marks i) out → r ≡ end + length (own line v) → o ≡ lay end (own line v) out'
+  pub row-done : (far : ℕ) → far ≡ farOf line → (at end r : ℕ) (marks out out' o : List ℕ) → marks ≡ marked (replicate 100 0) (uses line) → end ≡ at + length (brought m (line .section) marks i)
+      → out' ≡ lay at (brought m (line .section) marks i) out → r ≡ end + length (own far line v) → o ≡ lay end (own far line v) out'
       → (r ≡ at + length (denied m i v)) × (o ≡ lay at (denied m i v) out)
   unfolding denied
-  row-done at end r marks out out' o k e a f b =
+  row-done far d at end r marks out out' o k e a f b =
       let bs = brought m (lineIn m i .section) (marked (replicate 100 0) (uses (lineIn m i))) i in
       let same : brought m (line .section) marks i ≡ bs = rw (k, l) in
-      let own-is : own line v ≡ own (lineIn m i) v = rw l in
+      let own-is : own far line v ≡ own (farOf (lineIn m i)) (lineIn m i) v = rw (d, l) in
       let e' : end ≡ at + length bs = e ∙ ap (λ (x : List Line). at + length x) same in (
-        omega (arith, f, e', ap length own-is, length-append bs (own (lineIn m i) v)),
-        b ∙ ap (λ (x : List Line). lay end x out') own-is ∙ rw (e', a, same) (sym (lay-append bs (own (lineIn m i) v) at out)),
+        omega (arith, f, e', ap length own-is, length-append bs (own (farOf (lineIn m i)) (lineIn m i) v)),
+        b ∙ ap (λ (x : List Line). lay end x out') own-is ∙ rw (e', a, same) (sym (lay-append bs (own (farOf (lineIn m i)) (lineIn m i) v) at out)),
       )

@@ -14,7 +14,7 @@ use Rattle.sheet.specs.Memory.{lay, linesIn, product}
 use Rattle.sheet.specs.Text.{Fits, sheetText}
 use Rattle.sheet.proofs.Theorems.{AcceptedSheet, accepted-sheet}
 use Rattle.sheet.proofs.Denials.{count-product}
-use Rattle.sheet.proofs.Store.{lines-back}
+use Rattle.sheet.proofs.Memory.{lines-back}
 use Rattle.antiscenario.specs.Build.{built}
 use Rattle.antiscenario.specs.Write.{noText, writtenLines, writtenText, writeOf, afterWrite}
 use Rattle.antiscenario.proofs.Accept.{lines-are, built-written}

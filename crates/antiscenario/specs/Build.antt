@@ -1,4 +1,4 @@
--- Antiscenario m in memory, as the code goes: rows by their numbers, six to a row.
+-- Antiscenario m in memory, as the code goes: rows by their numbers, six to a row. Inner vocabulary.
 -- Assumes nothing.
 use mathlib.Core.Path.{_≡_}
 use mathlib.Core.Bool.{Bool, cond, _&&_}
@@ -7,18 +7,15 @@ use Prim.Native.Nat.{ℕ, zero, suc, _+_, _*_, _-_, _/_, _%_, _<_}
 use lib.ListN.{getD, set, replicate}
 use lib.Dec.{ltb, leb, eqb}
 use Rattle.scenario.specs.Rows.{Row, denying-rows, far-end}
-use Rattle.scenario.specs.Fields.{fields, Tagged}
 use Rattle.sheet.specs.declared.Line.{Line}
 use Rattle.sheet.specs.Row.{six}
 use Rattle.sheet.specs.Reading.{rowIn}
-use Rattle.sheet.specs.Memory.{lineIn, linesIn, weighLine, product}
+use Rattle.sheet.specs.Text.{numbersOf}
+use Rattle.sheet.specs.Memory.{edge, lineIn, linesIn, weighLine, product}
 
 -- a row's numbers, with its section
 unfoldable pub lineFrom : ℕ → Row → Line
-lineFrom s r = six s (fields r .kind) (fields r .p) (fields r .q) (fields r .a) (fields r .b)
-
-unfoldable pub taggedLine : Tagged → Line
-taggedLine t = lineFrom (t .section) (t .row)
+lineFrom s r = numbersOf (record { section = s; row = r })
 
 -- the points that a row uses, without the one it introduces, by its kind
 unfoldable pub uses : Line → List ℕ
@@ -47,9 +44,13 @@ brought m s marks zero = []
 brought m s marks (suc i) =
     cond (wanted marks s (lineIn m i)) (brought m s (marked marks (uses (lineIn m i))) i ++ (lineIn m i ∷ [])) (brought m s marks i)
 
--- the own rows of denial v of a row
-unfoldable pub own : Line → ℕ → List Line
-own l v = map (lineFrom (l .section)) (getD (denying-rows (far-end [] [] (rowIn l)) (10 * l .section + 9) (rowIn l)) v [])
+-- how far the point of a NEXT or LAST row is missing
+abbrev pub farOf : Line → ℕ
+farOf l = far-end [] [] (rowIn l)
+
+-- the own rows of denial v of a row whose far end is given
+unfoldable pub own : (far : ℕ) → Line → ℕ → List Line
+own far l v = map (lineFrom (l .section)) (getD (denying-rows far (10 * l .section + 9) (rowIn l)) v [])
 
 -- a row of BEFORE's two denials, and the row beside an end of FREE's
 abbrev pub beforeOf : (s p q v : ℕ) → Line
@@ -58,9 +59,17 @@ beforeOf s p q v = cond (eqb v 0) (six s 6 q p 0 0) (six s 8 p q 0 0)
 abbrev pub insideOf : (s r e p : ℕ) → Line
 insideOf s r e p = cond (eqb e 0) (six s 6 r p 0 0) (six s 6 p r 0 0)
 
+-- FREE's own rows, r being the spare point
+abbrev pub freeRows : (s r p q a v : ℕ) → List Line
+freeRows s r p q a v =
+    six s 1 r 0 a 0
+    ∷ cond (edge p) (cond (edge q) [] (insideOf s r p q ∷ []))
+    (cond (edge q) (insideOf s r q p ∷ [])
+    (cond (eqb v 0) (six s 6 p r 0 0 ∷ six s 6 r q 0 0 ∷ []) (six s 6 q r 0 0 ∷ six s 6 r p 0 0 ∷ [])))
+
 -- denial v of row i
 unfoldable pub denied : (m : List ℕ) (i v : ℕ) → List Line
-denied m i v = brought m (lineIn m i .section) (marked (replicate 100 0) (uses (lineIn m i))) i ++ own (lineIn m i) v
+denied m i v = brought m (lineIn m i .section) (marked (replicate 100 0) (uses (lineIn m i))) i ++ own (farOf (lineIn m i)) (lineIn m i) v
 
 -- denial j of section s, from row i on
 unfoldable pub denialFrom : (m : List ℕ) (s i left j : ℕ) → List Line

@@ -1,4 +1,4 @@
--- Judge a placement of antiscenario m: the answer, and what stands in memory before it is judged.
+-- Judge a placement of antiscenario m: the answer, and what stands in memory before it is judged. What must be believed.
 -- Assumes nothing.
 use mathlib.Core.Path.{_≡_}
 use mathlib.Core.Bool.{false, not, _&&_, cond}
@@ -12,7 +12,7 @@ use Rattle.scenario.specs.Reading.{Pattern}
 use Rattle.sheet.specs.Reading.{answer as sheet-answer, sheetIn, countIn}
 use Rattle.runlog.specs.Log.{answer as log-answer, runIn}
 use Rattle.runlog.specs.Held.{Held, runAt}
-use Rattle.pattern.specs.Decode.{rowsOf}
+use Rattle.sheet.specs.Memory.{rowsOf}
 use Rattle.antiscenario.specs.declared.Judged.{Judged}
 use Rattle.antiscenario.specs.Numbers.{no-such-number, wrong-number-of-positions}
 

@@ -1,4 +1,4 @@
--- Document 01's numbers for antiscenarios: the refusals of writing and judging that are not the sheet's or the log's.
+-- Document 01's numbers for antiscenarios: the refusals of writing and judging that are not the sheet's or the log's. What must be believed.
 -- Assumes nothing.
 use Prim.Native.Nat.{ℕ}
 

@@ -1,4 +1,4 @@
--- Write antiscenario m: its text, the answer, and what the buffer holds afterwards.
+-- Write antiscenario m: its text, the answer, and what the buffer holds afterwards. What must be believed.
 -- Assumes nothing.
 use mathlib.Core.Bool.{cond, _&&_}
 use mathlib.Core.List.{List, _++_, map}
@@ -8,10 +8,9 @@ use lib.Dec.{leb, eqb}
 use Rattle.scenario.specs.Fields.{written}
 use Rattle.sheet.specs.declared.Line.{Line}
 use Rattle.sheet.specs.Reading.{sheetOf, taken, answer}
-use Rattle.sheet.specs.Text.{sheetText}
+use Rattle.sheet.specs.Text.{sheetText, numbersOf}
 use Rattle.antiscenario.specs.declared.Written.{Written}
 use Rattle.antiscenario.specs.Numbers.{no-such-number, buffer-too-short}
-use Rattle.antiscenario.specs.Build.{taggedLine}
 
 -- the memory with a text from index at on
 unfoldable pub inked : (at : ℕ) (text m : List ℕ) → List ℕ
@@ -19,7 +18,7 @@ inked at text m = take at m ++ (text ++ drop (at + length text) m)
 
 -- the rows of antiscenario number m of a sheet's text, with their sections
 unfoldable pub writtenLines : (s : List ℕ) (m : ℕ) → List Line
-writtenLines s m = map taggedLine (written (sheetOf (answer s .k) (taken s .lines)) m)
+writtenLines s m = map numbersOf (written (sheetOf (answer s .k) (taken s .lines)) m)
 
 -- "It is written as a sheet's first line (k, its row count) and rows, each with the section it came from."
 unfoldable pub writtenText : (s : List ℕ) (m : ℕ) → List ℕ

@@ -5,13 +5,15 @@ ghost use mathlib.Core.List.{List, [], _∷_, _++_};
 ghost use Prim.Native.Nat.{ℕ, _+_, _*_, _-_, _≤_, _<_};
 ghost use lib.ListN.{length, getD, set, take, drop};
 ghost use lib.Dec.{eqb};
+ghost use Rattle.runlog.specs.Numbers.{ticks-room, events-room};
+ghost use Rattle.scenario.specs.Rows.{event-count};
 ghost use Rattle.sheet.specs.Row.{six};
-ghost use Rattle.sheet.specs.Memory.{put, lay, lineIn, linesIn, weight, weightFree, weighLine, product};
+ghost use Rattle.sheet.specs.Memory.{lay, lineIn, linesIn, weight, weighLine, product};
 ghost use Rattle.sheet.specs.Text.{Fits, rowText, rowsText, headText, sheetText};
 ghost use Rattle.antiscenario.specs.Write.{inked, noText, writeOf, afterWrite};
 ghost use Rattle.antiscenario.specs.Judge.{refusalOf, Ready, unjudged as unjudgedOf, judgeOf};
 ghost use Rattle.scenario.specs.Reading.{All};
-ghost use Rattle.antiscenario.specs.Build.{NoneBefore, uses, marked, wanted, brought, own, insideOf, beforeOf, denied, denialFrom, ofSection, built};
+ghost use Rattle.antiscenario.specs.Build.{NoneBefore, uses, marked, wanted, brought, farOf, own, freeRows, insideOf, beforeOf, denied, denialFrom, ofSection, built};
 
 // Document 01's refusals of its own: "31 m not in 1 to N", "32 buffer too short", "34 number of positions not the number of points".
 const NO_SUCH_NUMBER: u32 = 31;
@@ -20,32 +22,10 @@ const BUFFER_TOO_SHORT: u32 = 32;
 
 const WRONG_NUMBER_OF_POSITIONS: u32 = 34;
 
-// Numbers in memory, six to a row: 176 rows of a sheet, and more than an antiscenario has.
-const SHEET_ROOM: usize = 1056;
-
-const ANTISCENARIO_ROOM: usize = 1200;
-
-// A log in memory, by position: ticks of start, 4,000 lines and close; events of the lines, index 0 unused.
-const TICKS_ROOM: usize = 4002;
-
-const EVENTS_ROOM: usize = 4001;
-
-// "At most 58 points".
-const MOST_POINTS: usize = 58;
-
 // What writing gives: the refusal, or 0 and the text's length.
 pub struct Written {
     pub refusal: u32,
     pub length: usize,
-}
-
-// Stores v at index i, where there is one.
-fn store(m: &mut [u32], i: usize, v: u32)
-    ensures { λ _. ⌜ now (m .exit) ≡ set (now (m .entry)) i v ⌝ }
-{
-    if i < m.len() {
-        m[i] = v;
-    }
 }
 
 fn row(section: u32, kind: u32, p: u32, q: u32, a: u32, b: u32) -> sheet::Line
@@ -61,32 +41,10 @@ fn row(section: u32, kind: u32, p: u32, q: u32, a: u32, b: u32) -> sheet::Line
     }
 }
 
-// Stores a row as number i, from 0.
-fn put_row(m: &mut [u32], i: usize, line: sheet::Line)
-    requires { ⌜ i ≤ 2000 ⌝ }
-    ensures { λ _. ⌜ now (m .exit) ≡ put i line (now (m .entry)) ⌝ }
-{
-    store(m, 6 * i, line.section);
-    store(m, 6 * i + 1, line.kind);
-    store(m, 6 * i + 2, line.p);
-    store(m, 6 * i + 3, line.q);
-    store(m, 6 * i + 4, line.a);
-    store(m, 6 * i + 5, line.b);
-}
-
-// Row number i, from 0.
-fn row_in(m: &[u32], i: usize) -> sheet::Line
-    requires { ⌜ 6 * i + 6 ≤ length (now m) ⌝ }
-    ensures { λ r. ⌜ r ≡ lineIn (now (m .entry)) i ⌝ }
-{
-    let at = 6 * i;
-    row(m[at], m[at + 1], m[at + 2], m[at + 3], m[at + 4], m[at + 5])
-}
-
 fn mark(marks: &mut [u32], p: u32)
     ensures { λ _. ⌜ now (marks .exit) ≡ set (now (marks .entry)) p 1 ⌝ }
 {
-    store(marks, p as usize, 1);
+    sheet::store(marks, p as usize, 1);
 }
 
 // Marks the points that a row uses, without the one it introduces.
@@ -140,7 +98,7 @@ fn first_of(rows: &[u32], n: usize, section: u32) -> usize
 {
     let mut i: usize = 0;
     while i < n {
-        if rows[6 * i] == section {
+        if sheet::section_of(rows, i) == section {
             return i;
         }
         i += 1;
@@ -157,7 +115,7 @@ fn last_wanted(rows: &[u32], from: usize, i: usize, section: u32, marks: &[u32])
 {
     let mut left = i;
     while from < left {
-        if is_wanted(marks, section, row_in(rows, left - 1)) {
+        if is_wanted(marks, section, sheet::line_at(rows, left - 1)) {
             return left;
         }
         left -= 1;
@@ -184,10 +142,10 @@ fn bring(
     if left == 0 {
         return at;
     }
-    let line = row_in(rows, left - 1);
+    let line = sheet::line_at(rows, left - 1);
     mark_uses(marks, line);
     let end = bring(rows, from, left - 1, section, marks, out, at);
-    put_row(out, end, line);
+    sheet::put_line(out, end, line);
     end + 1
 }
 
@@ -207,25 +165,35 @@ fn inside(section: u32, r: u32, e: u32, p: u32) -> sheet::Line
     before(section, p, r)
 }
 
-// The row that denies a row of a kind other than FREE; v tells BEFORE's two denials apart. Accepted rows have no other kinds.
-fn deny_line(line: sheet::Line, v: u64) -> sheet::Line
+// How far the point of a NEXT or LAST row is missing: up to the close, from the start. No other row asks.
+fn far_end(line: sheet::Line) -> u32
+    ensures { λ r. ⌜ r ≡ farOf line ⌝ }
+{
+    if line.kind == 2 {
+        return sheet::CLOSE;
+    }
+    0
+}
+
+// The row that denies a row of a kind other than FREE, whose far end is given; v tells BEFORE's two denials apart. Accepted rows have no other kinds.
+fn deny_line(line: sheet::Line, v: u64, far: u32) -> sheet::Line
     requires { ⌜ (v < weight (line .kind) (line .p) (line .q)) × (line .kind ≡ 9 → ⊥) ⌝ }
-    ensures { λ r. ⌜ own line v ≡ r ∷ [] ⌝ }
+    ensures { λ r. ⌜ own far line v ≡ r ∷ [] ⌝ }
 {
     let s = line.section;
     let p = line.p;
     let q = line.q;
     let kind = line.kind;
     match kind {
-        2 => row(s, 9, q, 99, line.a, 0),
-        3 => row(s, 9, 0, q, line.a, 0),
+        2 => row(s, 9, q, far, line.a, 0),
+        3 => row(s, 9, far, q, line.a, 0),
         6 => deny_before(s, p, q, v),
         7 => row(s, 8, p, q, 0, 0),
         8 => row(s, 7, p, q, 0, 0),
         10 => row(s, 11, p, q, line.a, line.b),
         11 => row(s, 10, p, q, line.a, line.b),
-        12 => row(s, 12, p, 0, 4294967295 - line.a, 0),
-        _ => row(s, 7, 0, 0, 0, 0),
+        12 => row(s, 12, p, 0, runlog::FULL_SET - line.a, 0),
+        _ => row(s, 8, 0, 0, 0, 0),
     }
 }
 
@@ -241,46 +209,46 @@ fn deny_before(s: u32, p: u32, q: u32, v: u64) -> sheet::Line
 
 // Stores the own rows of denial v of FREE; gives where they end.
 fn deny_free(line: sheet::Line, v: u64, out: &mut [u32], at: usize) -> usize
-    requires { ⌜ (v < weightFree (line .p) (line .q)) × (line .section ≤ 100) × (line .kind ≡ 9) × (at ≤ 1900) ⌝ }
-    ensures ends { λ r. ⌜ r ≡ at + length (own line v) ⌝ }
-    ensures memory { λ r. ⌜ now (out .exit) ≡ lay at (own line v) (now (out .entry)) ⌝ }
+    requires { ⌜ (line .section ≤ 100) × (at ≤ 1900) ⌝ }
+    ensures ends { λ r. ⌜ r ≡ at + length (freeRows (line .section) (10 * line .section + 9) (line .p) (line .q) (line .a) v) ⌝ }
+    ensures memory { λ r. ⌜ now (out .exit) ≡ lay at (freeRows (line .section) (10 * line .section + 9) (line .p) (line .q) (line .a) v) (now (out .entry)) ⌝ }
 {
     let s = line.section;
     let p = line.p;
     let q = line.q;
     let r = 10 * s + 9;
-    put_row(out, at, row(s, 1, r, 0, line.a, 0));
+    sheet::put_line(out, at, row(s, 1, r, 0, line.a, 0));
     if sheet::is_edge(p) {
         if sheet::is_edge(q) {
             return at + 1;
         }
-        put_row(out, at + 1, inside(s, r, p, q));
+        sheet::put_line(out, at + 1, inside(s, r, p, q));
         return at + 2;
     }
     if sheet::is_edge(q) {
-        put_row(out, at + 1, inside(s, r, q, p));
+        sheet::put_line(out, at + 1, inside(s, r, q, p));
         return at + 2;
     }
     if v == 0 {
-        put_row(out, at + 1, before(s, p, r));
-        put_row(out, at + 2, before(s, r, q));
+        sheet::put_line(out, at + 1, before(s, p, r));
+        sheet::put_line(out, at + 2, before(s, r, q));
         return at + 3;
     }
-    put_row(out, at + 1, before(s, q, r));
-    put_row(out, at + 2, before(s, r, p));
+    sheet::put_line(out, at + 1, before(s, q, r));
+    sheet::put_line(out, at + 2, before(s, r, p));
     at + 3
 }
 
-// Stores the own rows of denial v of a row; gives where they end.
-fn own_rows(line: sheet::Line, v: u64, out: &mut [u32], at: usize) -> usize
+// Stores the own rows of denial v of a row, whose far end is given; gives where they end.
+fn own_rows(line: sheet::Line, v: u64, far: u32, out: &mut [u32], at: usize) -> usize
     requires { ⌜ (v < weight (line .kind) (line .p) (line .q)) × (line .section ≤ 100) × (at ≤ 1900) ⌝ }
-    ensures ends { λ r. ⌜ r ≡ at + length (own line v) ⌝ }
-    ensures memory { λ r. ⌜ now (out .exit) ≡ lay at (own line v) (now (out .entry)) ⌝ }
+    ensures ends { λ r. ⌜ r ≡ at + length (own far line v) ⌝ }
+    ensures memory { λ r. ⌜ now (out .exit) ≡ lay at (own far line v) (now (out .entry)) ⌝ }
 {
     if line.kind == 9 {
         return deny_free(line, v, out, at);
     }
-    put_row(out, at, deny_line(line, v));
+    sheet::put_line(out, at, deny_line(line, v, far));
     at + 1
 }
 
@@ -290,11 +258,11 @@ fn deny_row(rows: &[u32], from: usize, i: usize, v: u64, out: &mut [u32], at: us
     ensures ends { λ r. ⌜ r ≡ at + length (denied (now (rows .entry)) i v) ⌝ }
     ensures memory { λ r. ⌜ now (out .exit) ≡ lay at (denied (now (rows .entry)) i v) (now (out .entry)) ⌝ }
 {
-    let line = row_in(rows, i);
-    let mut marks = [0u32; 100];
+    let line = sheet::line_at(rows, i);
+    let mut marks = [0u32; pattern::POINT_NUMBERS];
     mark_uses(&mut marks, line);
     let end = bring(rows, from, i, line.section, &mut marks, out, at);
-    own_rows(line, v, out, end)
+    own_rows(line, v, far_end(line), out, end)
 }
 
 // Stores denial j of a section's; gives where its rows end.
@@ -326,12 +294,12 @@ fn copy_section(rows: &[u32], n: usize, section: u32, out: &mut [u32]) -> usize
     let mut i: usize = 0;
     let mut at: usize = 0;
     while i < n {
-        let line = row_in(rows, i);
+        let line = sheet::line_at(rows, i);
         i += 1;
         if line.section != section {
             continue;
         }
-        put_row(out, at, line);
+        sheet::put_line(out, at, line);
         at += 1;
     }
     at
@@ -389,7 +357,7 @@ fn write_rows(buf: &mut [u8], rows: &[u32], n: usize)
 {
     let mut i: usize = 0;
     while i < n {
-        write_row(buf, 7 + 35 * i, row_in(rows, i));
+        write_row(buf, 7 + 35 * i, sheet::line_at(rows, i));
         i += 1;
     }
 }
@@ -414,7 +382,7 @@ pub fn write_antiscenario(sheet: &[u8], m: u64, buf: &mut [u8]) -> Written
     ensures answers { λ r. ⌜ r ≡ writeOf (now (sheet .entry)) m (length (now (buf .entry))) ⌝ }
     ensures memory { λ r. ⌜ now (buf .exit) ≡ afterWrite (now (sheet .entry)) m (now (buf .entry)) ⌝ }
 {
-    let mut rows = [0u32; SHEET_ROOM];
+    let mut rows = [0u32; sheet::SHEET_ROOM];
     let read = sheet::load_sheet(sheet, &mut rows);
     if read.refusal != 0 {
         return no_text(read.refusal);
@@ -425,7 +393,7 @@ pub fn write_antiscenario(sheet: &[u8], m: u64, buf: &mut [u8]) -> Written
     if read.count < m {
         return no_text(NO_SUCH_NUMBER);
     }
-    let mut out = [0u32; ANTISCENARIO_ROOM];
+    let mut out = [0u32; pattern::ROWS_ROOM];
     let n = build(&rows, read.rows, read.k, read.count, m - 1, &mut out);
     let size = 7 + 35 * n;
     if buf.len() < size {
@@ -464,11 +432,11 @@ pub fn load_antiscenario(
     ticks: &mut [u32],
     events: &mut [u32],
 ) -> Loaded
-    requires { ⌜ (1200 ≤ length (now out)) × (length (now ticks) ≡ 4002) × (length (now events) ≡ 4001) × All (λ (e : ℕ). e < 32) (now events) ⌝ }
+    requires { ⌜ (1200 ≤ length (now out)) × (length (now ticks) ≡ ticks-room) × (length (now events) ≡ events-room) × All (λ (e : ℕ). e < event-count) (now events) ⌝ }
     ensures refusal { λ r. ⌜ r .refusal ≡ refusalOf (now (sheet .entry)) (now (log .entry)) m ⌝ }
     ensures memory { λ r. ⌜ (r .refusal ≡ 0 → Ready (now (sheet .entry)) (now (log .entry)) m (now (out .exit)) (now (ticks .exit)) (now (events .exit)) (r .rows) (r .lines)) ⌝ }
 {
-    let mut rows = [0u32; SHEET_ROOM];
+    let mut rows = [0u32; sheet::SHEET_ROOM];
     let s = sheet::load_sheet(sheet, &mut rows);
     if s.refusal != 0 {
         return not_loaded(s.refusal);
@@ -494,7 +462,7 @@ pub fn load_antiscenario(
 // A placement handed over whole: a position for each point, in order of introduction, and their number. Entries past it play no part.
 #[repr(C)]
 pub struct Placement {
-    pub positions: [u32; MOST_POINTS],
+    pub positions: [u32; pattern::MOST_POINTS],
     pub count: usize,
 }
 
@@ -518,14 +486,14 @@ pub fn judge(sheet: &[u8], log: &[u8], m: u64, placement: Placement) -> Judged
     ensures answer { λ r. ⌜ r ≡ judgeOf (now (sheet .entry)) (now (log .entry)) m (placement .positions) (placement .count) ⌝ }
     ensures past { λ r. ⌜ ((table : List ℕ) → take (placement .count) table ≡ take (placement .count) (placement .positions) → r ≡ judgeOf (now (sheet .entry)) (now (log .entry)) m table (placement .count)) ⌝ }
 {
-    let mut rows = [0u32; ANTISCENARIO_ROOM];
-    let mut ticks = [0u32; TICKS_ROOM];
-    let mut events = [0u32; EVENTS_ROOM];
+    let mut rows = [0u32; pattern::ROWS_ROOM];
+    let mut ticks = [0u32; runlog::TICKS_ROOM];
+    let mut events = [0u32; runlog::EVENTS_ROOM];
     let a = load_antiscenario(sheet, log, m, &mut rows, &mut ticks, &mut events);
     if a.refusal != 0 {
         return unjudged(a.refusal);
     }
-    let mut pts = [0u32; MOST_POINTS];
+    let mut pts = [0u32; pattern::MOST_POINTS];
     let np = pattern::gather(&rows, a.rows, &mut pts);
     if placement.count != np as usize {
         return unjudged(WRONG_NUMBER_OF_POSITIONS);

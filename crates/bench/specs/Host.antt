@@ -1,4 +1,4 @@
--- What a host gets: one number, and what its memory holds afterwards.
+-- What a host gets: one number, and what its memory holds afterwards. What must be believed.
 -- Assumes nothing.
 use mathlib.Core.Bool.{cond}
 use mathlib.Core.List.{List, _++_}

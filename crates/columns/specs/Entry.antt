@@ -1,4 +1,4 @@
--- Writing a number into a field of a lent buffer: the answer, and what the buffer holds afterwards.
+-- Writing a number into a field of a lent buffer: the answer, and what the buffer holds afterwards. What must be believed.
 -- Assumes nothing.
 use mathlib.Core.Bool.{Bool, cond, _&&_}
 use mathlib.Core.List.{List, _++_}

@@ -1,4 +1,4 @@
--- The spelling of a number in a field of any width: its digits right-justified, with spaces before them.
+-- The spelling of a number in a field of any width: its digits right-justified, with spaces before them. What must be believed.
 -- Assumes nothing.
 use Prim.Native.Nat.{ℕ, zero, suc, _+_, _/_, _%_, _^_}
 use mathlib.Core.List.{List, [], _∷_, _++_}

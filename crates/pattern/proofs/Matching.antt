@@ -18,8 +18,8 @@ use Rattle.scenario.proofs.Rules.{Fixed, meets-same}
 use Rattle.scenario.proofs.Place.{env-map}
 use Rattle.runlog.specs.Held.{Held, runAt}
 use Rattle.runlog.proofs.Logs.{part-length}
-use Rattle.pattern.specs.Decode.{by, rowAt, listed}
-use Rattle.pattern.specs.Placing.{puts, isPosition}
+use Rattle.sheet.specs.Memory.{rowAt, listed}
+use Rattle.pattern.specs.Placing.{puts, isPosition, by}
 use Rattle.pattern.proofs.Placing.{puts-keep, puts-read}
 
 -- Positions one after another

@@ -2,17 +2,17 @@
 -- Assumes nothing.
 use mathlib.Core.Path.{_≡_, refl, sym, ap}
 use mathlib.Core.Bool.{Bool, false, not}
-use mathlib.Core.List.{List, [], _∷_}
+use mathlib.Core.List.{List}
 use Prim.Native.Nat.{ℕ, zero, suc, _≤_, _<_}
 use native.Mathlib.Omega.{arith}
-use lib.ListN.{getD, List·getD-eq-default}
-use lib.Dec.{eqb, eqb-refl}
-use Rattle.scenario.specs.Rows.{clear, meets, apart, point, next, last, earlier, later, before, same, free, within, outside, event}
+use lib.ListN.{getD}
+use Rattle.scenario.specs.Rows.{clear, meets}
 use Rattle.scenario.specs.Log.{hasAt}
-use Rattle.scenario.proofs.Base.{is-true}
+use Rattle.scenario.specs.Fields.{decode}
+use Rattle.scenario.proofs.Numbers.{unknown-unmet}
 use Rattle.runlog.specs.Held.{Held, part, runAt, bare, nearOf}
 use Rattle.pattern.specs.Meeting.{placedBy, orderedBy}
-use Rattle.pattern.specs.Decode.{decode, by}
+use Rattle.pattern.specs.Placing.{by}
 use Rattle.runlog.proofs.Logs.{near-is}
 
 four : (P : ℕ → Type 0) → P 2 → P 3 → P 4 → P 5 → (k : ℕ) → 2 ≤ k → k ≤ 5 → P k
@@ -79,24 +79,8 @@ module _ (ticks events env : List ℕ) (n kind p q a b x y : ℕ) (H : Held tick
       rw (ex, ey)
       (three (λ (k : ℕ). orderedBy k (getD env p 0) (getD env q 0) ≡ meets (runAt ticks events n) (by env) (decode k p q a b)) refl refl refl kind l h)
 
-  never : decode kind p q a b ≡ apart 0 0 → Met false
-  unfolding meets
-  never e = rw e (sym (ap not (is-true (eqb (getD env 0 0) (getD env 0 0)) (eqb-refl (getD env 0 0)))))
-
   pub met-low : kind < 1 → Met false
-  unfolding decode
-  met-low h = never (low kind h)
-    where
-      low : (k : ℕ) → k < 1 → decode k p q a b ≡ apart 0 0
-      low zero h = refl
-      low (suc k) h = absurd (omega arith)
+  met-low h = sym (unknown-unmet (runAt ticks events n) (by env) p q a b kind (λ l m. omega arith))
 
   pub met-high : 12 < kind → Met false
-  unfolding decode
-  met-high h = never high
-    where
-      high : decode kind p q a b ≡ apart 0 0
-      high =
-          List·getD-eq-default
-          (apart 0 0 ∷ point p a ∷ next p q a ∷ last p q a ∷ earlier p q a ∷ later p q a ∷ before p q ∷ apart p q ∷ same p q ∷ free p q a
-          ∷ within p q a b ∷ outside p q a b ∷ event p a ∷ []) (apart 0 0) {n = kind} h
+  met-high h = sym (unknown-unmet (runAt ticks events n) (by env) p q a b kind (λ l m. omega arith))

@@ -1,4 +1,4 @@
--- What a row asks of positions, by kind: the rules of kinds 2 to 8.
+-- What a row asks of positions, by kind: the rules of kinds 2 to 8. Inner vocabulary.
 -- Assumes nothing.
 use mathlib.Core.Bool.{Bool, not, _&&_, cond}
 use Prim.Native.Nat.{ℕ, min, max}

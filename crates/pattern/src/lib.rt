@@ -2,7 +2,7 @@
 ghost use mathlib.Core.Path.{_≡_};
 ghost use mathlib.Core.Bool.{_&&_};
 ghost use Prim.Native.Nat.{_+_, _-_, _≤_, _<_};
-ghost use lib.ListN.{length, getD, set, take};
+ghost use lib.ListN.{length, getD, take};
 ghost use lib.Dec.{ltb, leb};
 ghost use Rattle.scenario.specs.Rows.{clear as clearOf, meets as meetsOf, points};
 ghost use Rattle.scenario.specs.Log.{hasAt};
@@ -10,13 +10,17 @@ ghost use Rattle.scenario.specs.Sheet.{all, matching};
 ghost use Rattle.scenario.specs.Reading.{Pattern};
 ghost use Rattle.runlog.specs.Held.{Events, Held, part, runAt, bare};
 ghost use Rattle.pattern.specs.Meeting.{placedBy, orderedBy};
-ghost use Rattle.pattern.specs.Decode.{decode, by, rowAt, rowsOf};
-ghost use Rattle.pattern.specs.Placing.{puts, isPosition};
+ghost use Rattle.scenario.specs.Fields.{decode};
+ghost use Rattle.sheet.specs.Memory.{rowAt, rowsOf};
+ghost use Rattle.pattern.specs.Placing.{puts, isPosition, by};
 
 // Point numbers are below 100; "99 the close".
-const POINT_NUMBERS: usize = 100;
+pub const POINT_NUMBERS: usize = 100;
 
-const CLOSE: usize = 99;
+pub const CLOSE: usize = 99;
+
+// "At most 58 points".
+pub const MOST_POINTS: usize = 58;
 
 // Room for 200 rows, more than an antiscenario has, six numbers to a row.
 pub const ROWS_ROOM: usize = 1200;
@@ -63,13 +67,13 @@ pub fn row_at(rows: &[u32; ROWS_ROOM], j: u32) -> Row
     requires { ⌜ j < 200 ⌝ }
     ensures { λ r. ⌜ decode (r .kind) (r .p) (r .q) (r .a) (r .b) ≡ rowAt (now (rows .entry)) j ⌝ }
 {
-    let i = 6 * j as usize;
-    let a = wide(rows[i + 4]);
-    let b = wide(rows[i + 5]);
+    let i = j as usize;
+    let a = wide(sheet::a_of(rows, i));
+    let b = wide(sheet::b_of(rows, i));
     Row {
-        kind: rows[i + 1],
-        p: rows[i + 2],
-        q: rows[i + 3],
+        kind: sheet::kind_of(rows, i),
+        p: sheet::p_of(rows, i),
+        q: sheet::q_of(rows, i),
         a,
         b,
     }
@@ -164,7 +168,7 @@ fn introduces(kind: u32) -> bool
 }
 
 // The number of the points that the rows introduce; they are written to the front of pts in order of introduction.
-pub fn gather(rows: &[u32], count: u32, pts: &mut [u32]) -> u32
+pub fn gather(rows: &[u32; ROWS_ROOM], count: u32, pts: &mut [u32]) -> u32
     requires { ⌜ (count ≤ 200) × (length (points (rowsOf (now rows) count)) ≤ length (now pts)) × (length (points (rowsOf (now rows) count)) ≤ 58) ⌝ }
     ensures number { λ r. ⌜ r ≡ length (points (rowsOf (now (rows .entry)) count)) ⌝ }
     ensures points { λ r. ⌜ take r (now (pts .exit)) ≡ points (rowsOf (now (rows .entry)) count) ⌝ }
@@ -172,26 +176,16 @@ pub fn gather(rows: &[u32], count: u32, pts: &mut [u32]) -> u32
     let mut np: u32 = 0;
     let mut j: u32 = 0;
     while j < count {
-        if !introduces(at(rows, 6 * j + 1)) {
-            j += 1;
+        let row = j as usize;
+        j += 1;
+        if !introduces(sheet::kind_of(rows, row)) {
             continue;
         }
         let i = np as usize;
-        pts[i] = at(rows, 6 * j + 2);
+        pts[i] = sheet::p_of(rows, row);
         np += 1;
-        j += 1;
     }
     np
-}
-
-// Puts x as the position of point m, where the array has that number.
-fn put_at(env: &mut [u32], m: u32, x: u32)
-    ensures { λ _. ⌜ now (env .exit) ≡ set (now (env .entry)) m x ⌝ }
-{
-    let i = m as usize;
-    if i < env.len() {
-        env[i] = x;
-    }
 }
 
 // Puts the first np positions as those of the first np points.
@@ -201,7 +195,7 @@ fn put_points(pts: &[u32], positions: &[u32], np: u32, env: &mut [u32])
 {
     let mut j: u32 = 0;
     while j < np {
-        put_at(env, at(pts, j), at(positions, j));
+        sheet::store(env, at(pts, j) as usize, at(positions, j));
         j += 1;
     }
 }

@@ -7,6 +7,8 @@ use native.Mathlib.Omega.{arith}
 use lib.ListN.{length, getD, set, take, drop, replicate, length-set, length-take, length-drop, take-append-drop, List·getD-eq-default}
 use lib.Seq.{take-at, drop-set-add, drop-set-lt, take-set-le, getD-set-same, getD-set-other}
 use borrow.Rule.Slice.PartMut.{same-len-mid}
+use Rattle.runlog.specs.Numbers.{ticks-room, events-room}
+use Rattle.scenario.specs.Rows.{event-count}
 use Rattle.scenario.specs.Log.{Log}
 use Rattle.scenario.specs.Reading.{All}
 use Rattle.scenario.proofs.Base.{all-append, all-back}
@@ -82,7 +84,7 @@ log-same a b c d t u v w e f g h = rw (e, f, g, h)
 pub mid-length : (E : List ℕ) → length (take (length E - 1) (drop 1 E)) ≡ length E - 1
 mid-length E = simp (length-take, length-drop) (omega arith)
 
-module _ (l E U X Y : List ℕ) (lE : length E ≡ 4002) (lV : length U ≡ 4001) (aV : All (λ (e : ℕ). e < 32) U)
+module _ (l E U X Y : List ℕ) (lE : length E ≡ ticks-room) (lV : length U ≡ events-room) (aV : All (λ (e : ℕ). e < event-count) U)
     (eX : X ≡ lay 0 (taken l .ticks) (take (length E - 1) (drop 1 E))) (eY : Y ≡ lay 0 (taken l .events) (take (length U - 1) (drop 1 U))) where
   module _ (e : answer l .refusal ≡ 0) where
     n-is : answer l .n ≡ headOf l .n
@@ -100,8 +102,8 @@ module _ (l E U X Y : List ℕ) (lE : length E ≡ 4002) (lV : length U ≡ 4001
     hY : length (taken l .events) ≤ length (take (length U - 1) (drop 1 U))
     hY = omega (arith, many-events, log-few l e, mid-length U)
 
-    all-small : All (λ (e : ℕ). e < 32) (take 1 U ++ (Y ++ drop (length U - 1) (drop 1 U)))
-    all-small = all-mem U Y (taken l .events) (length U - 1) (omega arith) hY eY (λ (e : ℕ). e < 32) aV (accepted-log l e .low)
+    all-small : All (λ (e : ℕ). e < event-count) (take 1 U ++ (Y ++ drop (length U - 1) (drop 1 U)))
+    all-small = all-mem U Y (taken l .events) (length U - 1) (omega arith) hY eY (λ (e : ℕ). e < event-count) aV (accepted-log l e .low)
 
     loaded-here : Loaded l (set (set (take 1 E ++ (X ++ drop (length E - 1) (drop 1 E))) 0 (answer l .start)) (answer l .n + 1) (answer l .close)) (take 1 U ++ (Y ++ drop (length U - 1) (drop 1 U)))
     unfolding part log-of
@@ -122,7 +124,7 @@ module _ (l E U X Y : List ℕ) (lE : length E ≡ 4002) (lV : length U ≡ 4001
               (lines-are U Y (taken l .events) (length U - 1) (omega arith) hY eY (answer l .n) many-events);
         }
       where
-        small-at : (m : List ℕ) → All (λ (e : ℕ). e < 32) m → (x : ℕ) → getD m x 0 < 32
+        small-at : (m : List ℕ) → All (λ (e : ℕ). e < event-count) m → (x : ℕ) → getD m x 0 < event-count
         small-at [] a x = omega (arith, List·getD-eq-default {A = ℕ} [] 0 {n = x} (omega arith))
         small-at (y ∷ m) a zero = a .0
         small-at (y ∷ m) a (suc x) = small-at m (a .1) x
@@ -142,6 +144,6 @@ module _ (l E U X Y : List ℕ) (lE : length E ≡ 4002) (lV : length U ≡ 4001
         same-len-mid 1 (length E - 1) E X (ap length eX ∙ lay-length (taken l .ticks) 0 (take (length E - 1) (drop 1 E))),
       )
 
-pub all-zeros : (n : ℕ) → All (λ (e : ℕ). e < 32) (replicate n 0)
+pub all-zeros : (n : ℕ) → All (λ (e : ℕ). e < event-count) (replicate n 0)
 all-zeros zero = tt
 all-zeros (suc n) = (omega arith, all-zeros n)

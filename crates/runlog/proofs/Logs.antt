@@ -9,7 +9,7 @@ use lib.ListN.{length, getD, drop, length-take, length-drop, List·getD-eq-defau
 use lib.Seq.{getD-take, getD-drop}
 use lib.Dec.{T, ltb, leb, eqb, not-T}
 use borrow.Author.Tests.{lt-ltb, le-ltb, le-leb, lt-leb, eq-eqb, ne-eqb}
-use Rattle.scenario.specs.Rows.{between, clear, full-set}
+use Rattle.scenario.specs.Rows.{between, clear, full-set, event-count}
 use Rattle.scenario.specs.Log.{inSet, hasAt, tick, nearAt, runOf}
 use Rattle.scenario.proofs.Base.{is-true, is-false, getD-all, Order, lower, level, upper, order}
 use Rattle.scenario.proofs.Rules.{Laws, between-up, between-down, Between, up, down, between-way, clear-put, clear-get}
@@ -57,8 +57,8 @@ module _ (events : List ℕ) (n : ℕ) (E : Events events n) (s x : ℕ) where
 -- the laws of its run
 pub bare-laws : (events : List ℕ) (n : ℕ) → Events events n → Laws (runOf (logOf [] events n))
 bare-laws events n E = laws (logOf [] events n)
-    (getD-all (λ (e : ℕ). e < 32) 0 (part events n) (λ i h. let run = part-length events n (E .room) in
-    subst (λ (e : ℕ). e < 32) (sym (ap (λ (k : ℕ). getD (part events n) k 0) (shift i) ∙ part-at events n (E .room) (suc i) 0 (omega arith) (omega arith))) (E .small (suc i))))
+    (getD-all (λ (e : ℕ). e < event-count) 0 (part events n) (λ i h. let run = part-length events n (E .room) in
+    subst (λ (e : ℕ). e < event-count) (sym (ap (λ (k : ℕ). getD (part events n) k 0) (shift i) ∙ part-at events n (E .room) (suc i) 0 (omega arith) (omega arith))) (E .small (suc i))))
   where
     shift : (i : ℕ) → i ≡ suc i - 1
     shift i = omega arith

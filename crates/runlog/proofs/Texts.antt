@@ -7,11 +7,12 @@ use native.Mathlib.Omega.{arith}
 use lib.ListN.{length, getD, take, drop, length-append}
 use lib.Seq.{take-at, drop-append-seam, drop-drop, getD-drop}
 use borrow.Author.Tests.{eq-eqb, le-ltb}
+use Rattle.scenario.specs.Rows.{event-count}
 use Rattle.columns.specs.Spell.{spell}
 use Rattle.columns.proofs.Spelling.{spell-length, spell-read}
 use Rattle.scenario.specs.Log.{Log}
 use Rattle.scenario.specs.Reading.{All}
-use Rattle.runlog.specs.Numbers.{most-lines, last-tick}
+use Rattle.runlog.specs.Numbers.{most-lines, last-tick, last-event}
 use Rattle.runlog.specs.declared.LineRead.the-variants.{Line}
 use Rattle.runlog.specs.Log.{headed, headOf, lineOf, Taken, lineBytes, linesFrom, taken, accepted, closing, answer, logOf}
 use Rattle.runlog.specs.Text.{headText, lineText, linesText, logText, Ordered, ValidLog}
@@ -87,7 +88,7 @@ module _ (tick event : ℕ) where
   line-ends : getD (spell 11 tick ++ from-event) 14 0 ≡ 10
   line-ends = sym (getD-drop 14 (spell 11 tick ++ from-event) 0 0) ∙ ap (λ (x : List ℕ). getD x 0 0) (past 11 tick 3 from-event ∙ past 3 event 0 (10 ∷ []))
 
-  line-read : (last : ℕ) → last ≤ tick → tick ≤ last-tick → event < 32 → lineOf last (lineText tick event) ≡ Line tick event
+  line-read : (last : ℕ) → last ≤ tick → tick ≤ last-tick → event < event-count → lineOf last (lineText tick event) ≡ Line tick event
   unfolding lineOf lineText
   line-read last after fits low =
       rw (past 11 tick 0 from-event)
@@ -95,7 +96,7 @@ module _ (tick event : ℕ) where
         spell-read 11 tick from-event (omega arith) (omega arith) fits,
         spell-read 3 event (10 ∷ []) (omega arith) (omega arith) (omega arith),
       )
-      (rw line-ends (simp (le-ltb 31 event (omega arith), le-ltb tick last after))))
+      (rw line-ends (simp (le-ltb last-event event (omega arith), le-ltb tick last after))))
 
   line-long : length (lineText tick event) ≡ 15
   unfolding lineText
@@ -136,7 +137,7 @@ module _ (s : List ℕ) (close : ℕ) (fits : close ≤ last-tick) where
       ap (λ (j : ℕ). drop j s) n ∙ sym (drop-drop 15 (28 + 15 * i) s) ∙ ap (drop 15) d
       ∙ ap (λ (j : ℕ). drop j (lineText t e ++ rest)) (sym (line-long t e)) ∙ drop-append-seam (lineText t e) rest
 
-  lines-read : (ticks events : List ℕ) (i last : ℕ) → length events ≡ length ticks → All (λ (e : ℕ). e < 32) events → Ordered last ticks close
+  lines-read : (ticks events : List ℕ) (i last : ℕ) → length events ≡ length ticks → All (λ (e : ℕ). e < event-count) events → Ordered last ticks close
       → drop (28 + 15 * i) s ≡ linesText ticks events → linesFrom s i (length ticks) last ≡ allTaken last ticks events
   unfolding linesFrom linesText
   lines-read [] [] i last n low o d = refl

@@ -1,6 +1,7 @@
 -- What reading accepts: the texts of the logs that document 01 permits, and no other bytes. Bytes and log determine each other.
 -- Assumes nothing.
 use mathlib.Core.Path.{_≡_, sym, ap, ap₂, _∙_}
+use mathlib.Core.Logic.{_↔_}
 use mathlib.Core.List.{List, [], _∷_, _++_, append-assoc}
 use Prim.Native.Nat.{ℕ, zero, suc, _-_, _≤_}
 use native.Mathlib.Omega.{arith}
@@ -14,6 +15,7 @@ use Rattle.scenario.proofs.Logs.{laws}
 use Rattle.runlog.specs.declared.Answer.{Answer}
 use Rattle.runlog.specs.Log.{headOf, taken, accepted, answer, logOf, runIn}
 use Rattle.runlog.specs.Text.{headText, logText, Ordered, ValidLog}
+use Rattle.runlog.specs.Valid.{ValidText}
 use Rattle.columns.proofs.Lines.{peel, value-fits}
 use Rattle.runlog.proofs.Whole.{FirstSeen, first-accepted, accepted-log, answer-said, close-after}
 use Rattle.runlog.proofs.Texts.{text-accepted, text-log}
@@ -89,6 +91,13 @@ pub record OneText (g : Log) : Type 0 where
 
 pub one-text : (g : Log) → ValidLog g → OneText g
 one-text g valid = record { said = text-accepted g valid; log = text-log g valid; only = λ s e is. text-only s e ∙ ap logText is }
+
+-- Reading accepts the texts of valid logs, and no other bytes.
+pub accepted-valid : (s : List ℕ) → (answer s .refusal ≡ 0) ↔ ValidText s
+accepted-valid s = (
+  (λ e. record { log = logOf s; valid = valid-log s e; text = text-only s e }),
+  (λ (X : ValidText s). ap (λ (t : List ℕ). answer t .refusal) (X .text) ∙ ap (λ (a : Answer). a .refusal) (one-text (X .log) (X .valid) .said)),
+)
 
 -- Ticks in order, by position: start, lines, close, and whatever lies past the close.
 ordered-at : (last : ℕ) (ticks : List ℕ) (close : ℕ) → Ordered last ticks close → (i : ℕ) → last ≤ getD ticks i close

@@ -9,6 +9,7 @@ use lib.ListN.{length, getD, set, take, drop, length-set, take-append-drop, drop
 use lib.Seq.{take-suc-set, drop-set-lt, drop-drop, drop-cons}
 use lib.Dec.{eqb, ltb}
 use borrow.Author.Tests.{eq-eqb, eqb-true, eqb-false, ltb-false, not-false}
+use Rattle.scenario.specs.Rows.{event-count}
 use Rattle.columns.specs.Number.{fieldAt}
 use Rattle.columns.specs.Spell.{spell}
 use Rattle.columns.specs.declared.Field.{Field}
@@ -75,7 +76,7 @@ record LineSeen (last : ℕ) (t : List ℕ) (tick event : ℕ) : Type 0 where
   is-tick : fieldAt t 11 ≡ Value tick
   is-event : fieldAt (drop 11 t) 3 ≡ Value event
   end : getD t 14 0 ≡ 10
-  low : event < 32
+  low : event < event-count
   after : last ≤ tick
 
 module _ (last : ℕ) (t : List ℕ) where
@@ -121,7 +122,7 @@ module _ (last : ℕ) (t : List ℕ) where
 pub record Lines (s : List ℕ) (i n last : ℕ) (t : Taken) : Type 0 where
   pub ticks : length (t .ticks) ≡ n
   pub events : length (t .events) ≡ n
-  pub low : All (λ (e : ℕ). e < 32) (t .events)
+  pub low : All (λ (e : ℕ). e < event-count) (t .events)
   pub ordered : Ordered last (t .ticks) (t .last)
   pub text : drop (28 + 15 * i) s ≡ linesText (t .ticks) (t .events)
 
@@ -218,17 +219,17 @@ module _ (s : List ℕ) (e : answer s .refusal ≡ 0) where
   accepted-log = subst (Lines s 0 (headOf s .n) (headOf s .start)) taken-lines
       (fine s (headOf s .n) 0 (headOf s .start) (omega (arith, first-accepted .length)) (ap (λ (t : Taken). t .number) taken-lines ∙ all-closed .number))
 
-  pub log-few : answer s .n ≤ 4000
+  pub log-few : answer s .n ≤ most-lines
   log-few = omega (arith, ap (λ (a : Answer). a .n) answer-said, first-accepted .few)
 
 answer-none : (s : List ℕ) → (answer s .refusal ≡ 0 → ⊥) → answer s .n ≡ 0
 unfolding answer
 answer-none s = unclosed (headOf s) (taken s)
 
-pub answer-few : (s : List ℕ) → answer s .n ≤ 4000
+pub answer-few : (s : List ℕ) → answer s .n ≤ most-lines
 answer-few s = go (eqb (answer s .refusal) 0) refl
   where
-    go : (b : Bool) → eqb (answer s .refusal) 0 ≡ b → answer s .n ≤ 4000
+    go : (b : Bool) → eqb (answer s .refusal) 0 ≡ b → answer s .n ≤ most-lines
     go true x = log-few s (eqb-true (answer s .refusal) 0 x)
     go false x = omega (arith, answer-none s (eqb-false (answer s .refusal) 0 x))
 

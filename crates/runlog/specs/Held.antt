@@ -1,21 +1,22 @@
--- A log in memory: ticks by position (0 the start, n + 1 the close), events by position (index 0 is not used).
+-- A log in memory: ticks by position (0 the start, n + 1 the close), events by position (index 0 is not used). Inner vocabulary.
 -- Assumes nothing.
 use mathlib.Core.Path.{_≡_}
 use mathlib.Core.List.{List}
 use mathlib.Core.Option.{Option, none, some}
+use Rattle.runlog.specs.Numbers.{most-lines}
 use Rattle.runlog.specs.Log.{logOf as log-of, answer as log-answer}
 use mathlib.Core.Bool.{Bool, false, _&&_, cond}
 use Prim.Native.Nat.{ℕ, _+_, _-_, _≤_, _<_}
 use lib.Dec.{ltb, leb}
 use lib.ListN.{length, getD, take, drop}
-use Rattle.scenario.specs.Rows.{Run}
+use Rattle.scenario.specs.Rows.{Run, event-count}
 use Rattle.scenario.specs.Log.{Log, hasAt, runOf}
 
 -- The events stand there: the event of line x at index x.
 pub record Events (events : List ℕ) (n : ℕ) : Type 0 where
   pub room : n < length events
-  pub few : n ≤ 4000
-  pub small : (x : ℕ) → getD events x 0 < 32
+  pub few : n ≤ most-lines
+  pub small : (x : ℕ) → getD events x 0 < event-count
 
 -- The slices are a log.
 pub record Held (ticks events : List ℕ) (n : ℕ) : Type 0 where

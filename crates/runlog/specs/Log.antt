@@ -1,4 +1,4 @@
--- Document 01, "Read a log": first line, then line by line, last the close.
+-- Document 01, "Read a log": first line, then line by line, last the close. What must be believed.
 -- Assumes nothing.
 use mathlib.Core.Bool.{not, cond}
 use mathlib.Core.List.{List, [], _∷_}

@@ -1,9 +1,10 @@
--- The text of a log: the first line, and a line to a tick and its event. And which logs have a text that is accepted.
+-- The text of a log: the first line, and a line to a tick and its event. And which logs have a text that is accepted. What must be believed.
 -- Assumes nothing.
 use mathlib.Core.Path.{_≡_}
 use mathlib.Core.List.{List, [], _∷_, _++_}
 use Prim.Native.Nat.{ℕ, _≤_, _<_}
 use lib.ListN.{length}
+use Rattle.scenario.specs.Rows.{event-count}
 use Rattle.columns.specs.Spell.{spell}
 use Rattle.scenario.specs.Log.{Log}
 use Rattle.scenario.specs.Reading.{All}
@@ -34,6 +35,6 @@ Ordered last (t ∷ ts) close = (last ≤ t) × Ordered t ts close
 pub record ValidLog (g : Log) : Type 0 where
   pub few : length (g .ticks) ≤ most-lines
   pub paired : length (g .events) ≡ length (g .ticks)
-  pub known : All (λ (e : ℕ). e < 32) (g .events)
+  pub known : All (λ (e : ℕ). e < event-count) (g .events)
   pub ordered : Ordered (g .start) (g .ticks) (g .close)
   pub fits : g .close ≤ last-tick

@@ -2,7 +2,8 @@
 ghost use mathlib.Core.Path.{_≡_};
 ghost use Prim.Native.Nat.{ℕ, _+_, _*_, _≤_, _<_, _-_, min, max};
 ghost use lib.ListN.{length};
-ghost use Rattle.scenario.specs.Rows.{clear as clearOf};
+ghost use Rattle.runlog.specs.Numbers.{most-lines, ticks-room, events-room};
+ghost use Rattle.scenario.specs.Rows.{clear as clearOf, event-count};
 ghost use Rattle.scenario.specs.Log.{inSet, hasAt};
 ghost use Rattle.scenario.specs.Walk.{lowest-above, highest-below};
 ghost use Rattle.scenario.specs.Reading.{All};
@@ -13,6 +14,14 @@ ghost use Rattle.runlog.specs.Held.{Events, part, bare, tickOf, gap, nea
 const MOST_LINES: u32 = 4000;
 
 const LAST_EVENT: u32 = 31;
+
+// The set of all events, 0 to 31: the sum of 2^e over them.
+pub const FULL_SET: u32 = 4294967295;
+
+// Room for 4,000 lines by position: ticks with the start at 0 and the close past the last line, events with index 0 not used.
+pub const TICKS_ROOM: usize = 4002;
+
+pub const EVENTS_ROOM: usize = 4001;
 
 const FIRST_BYTES: usize = 28;
 
@@ -73,8 +82,8 @@ pub struct LogRead {
 pub fn read_log(log: &[u8]) -> LogRead
     ensures { λ r. ⌜ r ≡ linesRead (now (log .entry)) ⌝ }
 {
-    let mut ticks = [0u32; 4002];
-    let mut events = [0u32; 4001];
+    let mut ticks = [0u32; TICKS_ROOM];
+    let mut events = [0u32; EVENTS_ROOM];
     let r = load_log(log, &mut ticks, &mut events);
     LogRead {
         refusal: r.refusal,
@@ -84,7 +93,7 @@ pub fn read_log(log: &[u8]) -> LogRead
 
 // Reads a log into memory by position: ticks of the start, the lines and the close, events of the lines.
 pub fn load_log(log: &[u8], ticks: &mut [u32], events: &mut [u32]) -> Answer
-    requires { ⌜ (length (now ticks) ≡ 4002) × (length (now events) ≡ 4001) × All (λ (e : ℕ). e < 32) (now events) ⌝ }
+    requires { ⌜ (length (now ticks) ≡ ticks-room) × (length (now events) ≡ events-room) × All (λ (e : ℕ). e < event-count) (now events) ⌝ }
     ensures answers { λ r. ⌜ r ≡ answer (now (log .entry)) ⌝ }
     ensures run { λ r. ⌜ (r .refusal ≡ 0 → Loaded (now (log .entry)) (now (ticks .exit)) (now (events .exit))) ⌝ }
 {
@@ -168,7 +177,7 @@ fn check_line(line: &[u8], last: u32) -> LineRead
 
 // Reads n lines into the memory, until one is refused.
 fn read_lines(log: &[u8], n: usize, start: u32, ticks: &mut [u32], events: &mut [u32]) -> Fault
-    requires { ⌜ (n ≤ 4000) × (28 + 15 * n ≤ length (now log)) × (4000 ≤ length (now ticks)) × (4000 ≤ length (now events)) ⌝ }
+    requires { ⌜ (n ≤ most-lines) × (28 + 15 * n ≤ length (now log)) × (most-lines ≤ length (now ticks)) × (most-lines ≤ length (now events)) ⌝ }
     ensures refusal { λ r. ⌜ r .refusal ≡ linesFrom (now (log .entry)) 0 n start .number ⌝ }
     ensures line { λ r. ⌜ r .line ≡ linesFrom (now (log .entry)) 0 n start .line ⌝ }
     ensures last { λ r. ⌜ r .last ≡ linesFrom (now (log .entry)) 0 n start .last ⌝ }
@@ -217,7 +226,7 @@ fn no_log(refusal: u32, line: u32) -> Answer
 
 // Reads a log: the lines that come before a refusal are in memory, ticks and events each from the front.
 fn fill_log(log: &[u8], ticks: &mut [u32], events: &mut [u32]) -> Answer
-    requires { ⌜ (4000 ≤ length (now ticks)) × (4000 ≤ length (now events)) ⌝ }
+    requires { ⌜ (most-lines ≤ length (now ticks)) × (most-lines ≤ length (now events)) ⌝ }
     ensures answers { λ r. ⌜ r ≡ answer (now (log .entry)) ⌝ }
     ensures ticks { λ _. ⌜ now (ticks .exit) ≡ lay 0 (taken (now (log .entry)) .ticks) (now (ticks .entry)) ⌝ }
     ensures events { λ _. ⌜ now (events .exit) ≡ lay 0 (taken (now (log .entry)) .events) (now (events .entry)) ⌝ }
@@ -303,7 +312,7 @@ pub fn clear(events: &[u32], n: u32, s: u64, x: u32, y: u32) -> bool
 
 // The tick of position x: the close's for every position past the lines.
 fn tick_at(ticks: &[u32], n: u32, x: u32) -> u32
-    requires { ⌜ (n + 1 < length (now ticks)) × (n ≤ 4000) ⌝ }
+    requires { ⌜ (n + 1 < length (now ticks)) × (n ≤ most-lines) ⌝ }
     ensures { λ r. ⌜ r ≡ tickOf (now (ticks .entry)) n x ⌝ }
 {
     if n < x {
@@ -325,7 +334,7 @@ fn apart(x: u32, y: u32) -> u64
 
 // Whether the distance of the ticks of positions x and y is from lo to hi.
 pub fn near(ticks: &[u32], n: u32, x: u32, y: u32, lo: u64, hi: u64) -> bool
-    requires { ⌜ (n + 1 < length (now ticks)) × (n ≤ 4000) ⌝ }
+    requires { ⌜ (n + 1 < length (now ticks)) × (n ≤ most-lines) ⌝ }
     ensures { λ r. ⌜ r ≡ nearOf (now (ticks .entry)) n x y lo hi ⌝ }
 {
     let s = tick_at(ticks, n, x);

@@ -1,4 +1,4 @@
--- What a denial is, by document 01's own sentence: the law that `denials` and its `closure` keep.
+-- What a denial is, by document 01's own sentence: the law that `denials` and its `closure` keep. What must be believed.
 -- "The introducing rows of the points used by the row, and of the points those need in turn, within the section and in sheet order; then the rows here."
 -- Assumes nothing.
 use mathlib.Core.Path.{_≡_}

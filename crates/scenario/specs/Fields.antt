@@ -1,6 +1,5 @@
--- A row's numbers, as a sheet has them, and the rows of an antiscenario with their sections, as it is written. Document 01, "Sheet" and "Antiscenarios".
+-- A row's numbers, as a sheet has them, and the rows of an antiscenario with their sections, as it is written. Document 01, "Sheet" and "Antiscenarios". What must be believed.
 -- Assumes nothing.
-use mathlib.Core.Option.{Option, none, some}
 use mathlib.Core.List.{List, [], _∷_, _++_, map}
 use Prim.Native.Nat.{ℕ, suc}
 use lib.ListN.{getD}
@@ -33,15 +32,13 @@ fields (within p q lo hi) = five 10 p q lo hi
 fields (outside p q lo hi) = five 11 p q lo hi
 fields (event p s) = five 12 p 0 s 0
 
--- the row of a kind, with the fields it mentions: a table by kind, from 0
-unfoldable pub rowOf : Fields → Option Row
-rowOf f =
+-- The row of five numbers, with the fields that its kind mentions: a table by kind, from 0. Any numbers give a row; an unknown kind gives one that is never met.
+unfoldable pub decode : (kind p q a b : ℕ) → Row
+decode kind p q a b =
     getD
-    (none ∷ some (point (f .p) (f .a)) ∷ some (next (f .p) (f .q) (f .a)) ∷ some (last (f .p) (f .q) (f .a))
-    ∷ some (earlier (f .p) (f .q) (f .a)) ∷ some (later (f .p) (f .q) (f .a)) ∷ some (before (f .p) (f .q)) ∷ some (apart (f .p) (f .q))
-    ∷ some (same (f .p) (f .q)) ∷ some (free (f .p) (f .q) (f .a)) ∷ some (within (f .p) (f .q) (f .a) (f .b))
-    ∷ some (outside (f .p) (f .q) (f .a) (f .b)) ∷ some (event (f .p) (f .a)) ∷ [])
-    (f .kind) none
+    (apart 0 0 ∷ point p a ∷ next p q a ∷ last p q a ∷ earlier p q a ∷ later p q a ∷ before p q ∷ apart p q ∷ same p q ∷ free p q a
+    ∷ within p q a b ∷ outside p q a b ∷ event p a ∷ [])
+    kind (apart 0 0)
 
 -- a row "with the section it came from"
 pub record Tagged : Type 0 where

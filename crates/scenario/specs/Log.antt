@@ -1,4 +1,4 @@
--- A log, and the run that rows see of it. Document 01, "Log".
+-- A log, and the run that rows see of it. Document 01, "Log". What must be believed.
 -- Assumes nothing.
 use mathlib.Core.Bool.{Bool, _&&_, cond}
 use mathlib.Core.List.{List}

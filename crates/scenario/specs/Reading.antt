@@ -1,11 +1,11 @@
--- What reading has checked of a sheet and of a log: all that demand 3 needs. And the patterns that a search takes.
+-- What reading has checked of a sheet and of a log: all that demand 3 needs. And the patterns that a search takes. What must be believed.
 -- Assumes nothing.
 use mathlib.Core.Path.{_≡_}
 use mathlib.Core.List.{List, [], _∷_, _++_}
 use Prim.Native.Nat.{ℕ, suc, _+_, _*_, _≤_, _<_}
 use lib.ListN.{length}
 use lib.Dec.{T}
-use Rattle.scenario.specs.Rows.{Row, point, next, last, earlier, later, before, apart, same, free, within, outside, event, event-count, full-set, points, introduced, needs, elem}
+use Rattle.scenario.specs.Rows.{Row, point, next, last, earlier, later, before, apart, same, free, within, outside, event, event-count, full-set, points, introduced, needs, elem, close-point}
 use Rattle.scenario.specs.Log.{Log}
 use Rattle.scenario.specs.Sheet.{Sheet}
 
@@ -31,7 +31,7 @@ IsEvents s = s ≤ full-set
 -- "0 is the start and 99 the close .. All others are ordinary"
 pub record Ordinary (m : ℕ) : Type 0 where
   pub not-start : m ≡ 0 → ⊥
-  pub not-close : m ≡ 99 → ⊥
+  pub not-close : m ≡ close-point → ⊥
 
 -- a consequent's row, besides its points being known: "not for this section", "both points ordinary", "the event at ordinary p"
 abbrev pub Valid : Row → Type 0
@@ -57,7 +57,7 @@ Counted b (p ∷ ps) = (p ≡ suc b) × Counted (suc b) ps
 -- or one of the c that section i has introduced so far.
 pub data Seen (a i c m : ℕ) : Type 0 where
   first : m ≡ 0 → Seen a i c m
-  final : m ≡ 99 → Seen a i c m
+  final : m ≡ close-point → Seen a i c m
   antecedent : 1 ≤ m → m ≤ a → Seen a i c m
   own : 10 * i < m → m ≤ 10 * i + c → Seen a i c m
 
@@ -85,7 +85,7 @@ pub record SheetRead (sheet : Sheet) : Type 0 where
 
 -- rows that are searched: each uses points that the rows introduce, each point is introduced once, and there are "at most 58 points"
 pub record Pattern (rows : List Row) : Type 0 where
-  pub known : All (λ (k : Row). (m : ℕ) → T (elem m (introduced k ++ needs k)) → (m ≡ 0 → ⊥) → (m ≡ 99 → ⊥) → T (elem m (points rows))) rows
+  pub known : All (λ (k : Row). (m : ℕ) → T (elem m (introduced k ++ needs k)) → (m ≡ 0 → ⊥) → (m ≡ close-point → ⊥) → T (elem m (points rows))) rows
   pub once : Distinct (points rows)
   pub plain : All (λ (m : ℕ). Ordinary m × (m < 100)) (points rows)
   pub few : length (points rows) ≤ 58

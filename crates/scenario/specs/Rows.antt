@@ -1,4 +1,4 @@
--- Rows: their kinds, when a placement meets them, the points they introduce, and what denies them. Document 01, "Kinds of row" and "Antiscenarios".
+-- Rows: their kinds, when a placement meets them, the points they introduce, and what denies them. Document 01, "Kinds of row" and "Antiscenarios". What must be believed.
 -- Assumes nothing.
 use mathlib.Core.Bool.{Bool, false, not, _&&_, _||_, cond}
 use mathlib.Core.List.{List, [], _∷_, _++_, map}
@@ -23,6 +23,10 @@ event-count = 32
 
 abbrev pub full-set : ℕ
 full-set = 4294967295
+
+-- "0 is the start and 99 the close"
+abbrev pub close-point : ℕ
+close-point = 99
 
 -- The run that rows see of a log: its line count n; whether position x is a line with its event in the set s; and whether the distance of the
 -- ticks of positions x and y is from lo to hi. 000 has executions (2.3.1 to 2.3.3), endless and with real times; ours end, with whole ticks.
@@ -128,7 +132,7 @@ pub data End : Type 0 where
   start close inner : End
 
 unfoldable pub end : ℕ → End
-end p = cond (eqb p 0) start (cond (eqb p 99) close inner)
+end p = cond (eqb p 0) start (cond (eqb p close-point) close inner)
 
 -- "FREE p q a in section i: POINT 10i + 9 (call it r) with set a, and ..": p and q are different points, so there is nothing for 0 0 and 99 99.
 unfoldable pub denying-free : (r p q s : ℕ) → End → End → List (List Row)
@@ -145,7 +149,7 @@ denying-free r p q s inner inner = (point r s ∷ before p r ∷ before r q ∷ 
 -- How far the point of a NEXT or LAST row of the consequent is missing: up to the close, from the start. No other row asks.
 unfoldable pub far-end : (antecedent consequent : List Row) → Row → ℕ
 far-end antecedent consequent (point p s) = 0
-far-end antecedent consequent (next p q s) = 99
+far-end antecedent consequent (next p q s) = close-point
 far-end antecedent consequent (last p q s) = 0
 far-end antecedent consequent (earlier p q a) = 0
 far-end antecedent consequent (later p q a) = 0

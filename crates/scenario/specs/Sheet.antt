@@ -1,4 +1,4 @@
--- Sheets: placements, matchings, when a sheet holds, antiscenarios and their numbers, the order of placements, and demand 3.
+-- Sheets: placements, matchings, when a sheet holds, antiscenarios and their numbers, the order of placements, and demand 3. What must be believed.
 -- Assumes nothing.
 use mathlib.Core.Path.{_≡_}
 use mathlib.Core.Logic.{_↔_}
@@ -7,7 +7,7 @@ use mathlib.Core.List.{List, [], _∷_, _++_}
 use Prim.Native.Nat.{ℕ, suc, _+_, _-_, _*_, _/_, _%_, _≤_, _<_}
 use lib.ListN.{length, getD, take}
 use lib.Dec.{ltb, leb, eqb, T}
-use Rattle.scenario.specs.Rows.{Row, Run, Env, meets, points, far-end, denials}
+use Rattle.scenario.specs.Rows.{Row, Run, Env, meets, points, far-end, denials, close-point}
 
 -- "Section 0 is the antecedent, sections 1 to k the consequents": consequent number i stands at place i - 1 of the list. 000's conditional scenario (3.1.3), which
 -- repeats the antecedent in each consequent and has at least one; k = 0 is ours.
@@ -26,7 +26,7 @@ lookup (p ∷ ps) (x ∷ xs) m = cond (eqb m p) x (lookup ps xs m)
 -- "A placement gives each introduced point a position; points may share one; 0 and 99 have theirs fixed": a placement is the list xs of the positions of
 -- the points ps, in order of introduction, and this is its environment.
 unfoldable pub env : Run → (ps xs : List ℕ) → Env
-env run ps xs m = cond (eqb m 0) 0 (cond (eqb m 99) (suc (run .lines)) (lookup ps xs m))
+env run ps xs m = cond (eqb m 0) 0 (cond (eqb m close-point) (suc (run .lines)) (lookup ps xs m))
 
 module _ {A : Type 0} where
   -- every member passes the test

@@ -15,7 +15,7 @@ use Rattle.scenario.proofs.Least.{search-says}
 use Rattle.runlog.specs.Log.{runIn}
 use Rattle.runlog.specs.Held.{runAt}
 use Rattle.sheet.specs.Reading.{sheetIn}
-use Rattle.pattern.specs.Decode.{rowsOf}
+use Rattle.sheet.specs.Memory.{rowsOf}
 use Rattle.antiscenario.specs.Judge.{refusalOf, Ready}
 use Rattle.search.specs.Matching.{filled, isFound}
 use Rattle.search.specs.Searching.{Searched, unsearched, searched, searchRows, searchOf, Matches, Told}

@@ -1,4 +1,4 @@
--- Search antiscenario m over bytes: what it says, and what the lent places hold afterwards.
+-- Search antiscenario m over bytes: what it says, and what the lent places hold afterwards. What must be believed.
 -- Assumes nothing.
 use mathlib.Core.Path.{_≡_}
 use mathlib.Core.Logic.{_↔_}

@@ -12,7 +12,7 @@ use lib.ListN.{length, getD, set, replicate, length-set, getD-replicate}
 use lib.Seq.{getD-set-same, getD-set-other}
 use borrow.Author.Tests.{eq-eqb, ne-eqb, eqb-true, eqb-false, le-leb, lt-leb}
 use Rattle.sheet.specs.declared.Line.{Line}
-use Rattle.sheet.specs.Memory.{lineIn, linesIn, weightFree, weight, weighLine, weighed, Weighed, product}
+use Rattle.sheet.specs.Memory.{sectionAt, kindAt, pAt, qAt, lineIn, linesIn, weightFree, weight, weighLine, weighed, Weighed, product}
 
 module _ (k p q : ℕ) where
   pub weight-1 : k ≡ 1 → 0 ≡ weight k p q
@@ -64,34 +64,35 @@ sums-none m d n e =
       low = λ s h. rw e (omega (arith, getD-replicate {A = ℕ} 7 s 0 0 h));
     }
 
-weighs-own : (m : List ℕ) (i s : ℕ) → getD m (6 * i) 0 ≡ s → weighLine s (lineIn m i) ≡ weight (getD m (6 * i + 1) 0) (getD m (6 * i + 2) 0) (getD m (6 * i + 3) 0)
-unfolding weighLine lineIn
-weighs-own m i s e = simp (eq-eqb _ _ e)
+-- a row in memory, from its numbers
+module _ (m : List ℕ) (i t : ℕ) (e : t ≡ sectionAt m i) where
+  pub weighs-own : (w k p q : ℕ) → w ≡ weight k p q → k ≡ kindAt m i → p ≡ pAt m i → q ≡ qAt m i → w ≡ weighLine t (lineIn m i)
+  unfolding weighLine lineIn
+  weighs-own w k p q ew ek ep eq = rw (ew, ek, ep, eq, eq-eqb (sectionAt m i) t (sym e))
 
-weighs-none : (m : List ℕ) (i s : ℕ) → (getD m (6 * i) 0 ≡ s → ⊥) → weighLine s (lineIn m i) ≡ 0
-unfolding weighLine lineIn
-weighs-none m i s e = simp (ne-eqb _ _ e)
+  pub weighs-none : (s : ℕ) → (t ≡ s → ⊥) → 0 ≡ weighLine s (lineIn m i)
+  unfolding weighLine lineIn
+  weighs-none s n = rw (ne-eqb (sectionAt m i) s (λ z. n (e ∙ z)))
 
-module _ (m d : List ℕ) (i n : ℕ) (h : i < n) (S : Sums m d i n) where
-  pub sums-skip : 7 ≤ getD m (6 * i) 0 → Sums m d (i + 1) n
+module _ (m d : List ℕ) (i n : ℕ) (h : i < n) (S : Sums m d i n) (t : ℕ) (e : t ≡ sectionAt m i) where
+  pub sums-skip : 7 ≤ t → Sums m d (i + 1) n
   sums-skip far =
       record {
         long = S .long;
-        sum = λ s l. omega (arith, S .sum s l, weighed-step s m i n (getD d s 0) h, weighs-none m i s (λ e. omega arith));
+        sum = λ s l. omega (arith, S .sum s l, weighed-step s m i n (getD d s 0) h, weighs-none m i t e s (λ z. omega arith));
         low = λ s l. omega (arith, S .low s l);
       }
 
-  pub sums-add : (t w : ℕ) → getD m (6 * i) 0 ≡ t → t < 7 → w ≡ weight (getD m (6 * i + 1) 0) (getD m (6 * i + 2) 0) (getD m (6 * i + 3) 0) → w ≤ 2
-      → Sums m (set d t (getD d t 0 + w)) (i + 1) n
-  sums-add t w e l q k = record { long = length-set d t (getD d t 0 + w) ∙ S .long; sum = λ s b. at s b (eqb s t) refl; low = λ s b. few s b (eqb s t) refl }
+  pub sums-add : t < 7 → (w : ℕ) → w ≡ weighLine t (lineIn m i) → w ≤ 2 → Sums m (set d t (getD d t 0 + w)) (i + 1) n
+  sums-add l w q k = record { long = length-set d t (getD d t 0 + w) ∙ S .long; sum = λ s b. at s b (eqb s t) refl; low = λ s b. few s b (eqb s t) refl }
     where
       at : (s : ℕ) → s < 7 → (b : Bool) → eqb s t ≡ b → getD (set d t (getD d t 0 + w)) s 0 + weighed s (linesIn m (i + 1) (n - (i + 1))) ≡ weighed s (linesIn m 0 n)
       at s b true f =
           let z = eqb-true s t f in
-          rw z (omega (arith, getD-set-same d t (getD d t 0 + w) 0 (omega (arith, S .long)), S .sum t l, weighed-step t m i n (getD d t 0) h, weighs-own m i t e, q))
+          rw z (omega (arith, getD-set-same d t (getD d t 0 + w) 0 (omega (arith, S .long)), S .sum t l, weighed-step t m i n (getD d t 0) h, q))
       at s b false f =
           let z = eqb-false s t f in
-          omega (arith, getD-set-other d t s (getD d t 0 + w) 0 z, S .sum s b, weighed-step s m i n (getD d s 0) h, weighs-none m i s (λ x. z (sym x ∙ e)))
+          omega (arith, getD-set-other d t s (getD d t 0 + w) 0 z, S .sum s b, weighed-step s m i n (getD d s 0) h, weighs-none m i t e s (λ x. z (sym x)))
 
       few : (s : ℕ) → s < 7 → (b : Bool) → eqb s t ≡ b → getD (set d t (getD d t 0 + w)) s 0 ≤ 2 * (i + 1)
       few s b true f = let z = eqb-true s t f in rw z (omega (arith, getD-set-same d t (getD d t 0 + w) 0 (omega (arith, S .long)), S .low t l))

@@ -9,30 +9,13 @@ use lib.ListN.{length, length-append, length-map}
 use lib.Dec.{eqb}
 use borrow.Author.Tests.{eqb-true, eqb-false, ne-eqb}
 use Rattle.scenario.specs.Rows.{Row, denying-rows, denying-free, end, closure, needs, denials, far-end}
-use Rattle.scenario.specs.Fields.{five, rowOf}
+use Rattle.scenario.specs.Fields.{decode}
 use Rattle.scenario.specs.Sheet.{choices, total, count}
+use Rattle.scenario.proofs.Numbers.{any-kind}
 use Rattle.sheet.specs.declared.Line.{Line}
-use Rattle.sheet.specs.Reading.{orSame, rowIn, section, sections, sheetOf}
+use Rattle.sheet.specs.Reading.{rowIn, section, sections, sheetOf}
 use Rattle.sheet.specs.Memory.{edge, weightFree, weight, weighLine, weighed, product}
 use Rattle.sheet.proofs.Count.{weight-high}
-
--- by kind: 0, 1 to 12, and above
-pub any-kind : (P : ℕ → Type 0) → P 0 → P 1 → P 2 → P 3 → P 4 → P 5 → P 6 → P 7 → P 8 → P 9 → P 10 → P 11 → P 12
-    → ((k : ℕ) → P (suc (suc (suc (suc (suc (suc (suc (suc (suc (suc (suc (suc (suc k)))))))))))))) → (k : ℕ) → P k
-any-kind P z a b c d e f g h i j l m n zero = z
-any-kind P z a b c d e f g h i j l m n (suc zero) = a
-any-kind P z a b c d e f g h i j l m n (suc (suc zero)) = b
-any-kind P z a b c d e f g h i j l m n (suc (suc (suc zero))) = c
-any-kind P z a b c d e f g h i j l m n (suc (suc (suc (suc zero)))) = d
-any-kind P z a b c d e f g h i j l m n (suc (suc (suc (suc (suc zero))))) = e
-any-kind P z a b c d e f g h i j l m n (suc (suc (suc (suc (suc (suc zero)))))) = f
-any-kind P z a b c d e f g h i j l m n (suc (suc (suc (suc (suc (suc (suc zero))))))) = g
-any-kind P z a b c d e f g h i j l m n (suc (suc (suc (suc (suc (suc (suc (suc zero)))))))) = h
-any-kind P z a b c d e f g h i j l m n (suc (suc (suc (suc (suc (suc (suc (suc (suc zero))))))))) = i
-any-kind P z a b c d e f g h i j l m n (suc (suc (suc (suc (suc (suc (suc (suc (suc (suc zero)))))))))) = j
-any-kind P z a b c d e f g h i j l m n (suc (suc (suc (suc (suc (suc (suc (suc (suc (suc (suc zero))))))))))) = l
-any-kind P z a b c d e f g h i j l m n (suc (suc (suc (suc (suc (suc (suc (suc (suc (suc (suc (suc zero)))))))))))) = m
-any-kind P z a b c d e f g h i j l m n (suc (suc (suc (suc (suc (suc (suc (suc (suc (suc (suc (suc (suc k))))))))))))) = n k
 
 -- FREE, by the ends
 module _ (r p q s : ℕ) where
@@ -54,10 +37,10 @@ module _ (r p q s : ℕ) where
 -- a row's denials
 module _ (z r : ℕ) where
   abbrev Weighs : (p q a b k : ℕ) → Type 0
-  Weighs p q a b k = length (denying-rows z r (orSame (rowOf (five k p q a b)))) ≡ weight k p q
+  Weighs p q a b k = length (denying-rows z r (decode k p q a b)) ≡ weight k p q
 
   weighs : (p q a b k : ℕ) → Weighs p q a b k
-  unfolding orSame rowOf denying-rows weight
+  unfolding decode denying-rows weight
   weighs p q a b =
       any-kind (Weighs p q a b) refl refl refl refl refl refl refl refl refl (free-weight r p q a) refl refl refl
       (λ k. weight-high (suc (suc (suc (suc (suc (suc (suc (suc (suc (suc (suc (suc (suc k))))))))))))) p q (omega arith) (λ e. omega arith) (λ e. omega arith))

@@ -10,12 +10,12 @@ use lib.Dec.{eqb}
 use Rattle.columns.specs.Number.{fieldAt, numeral, scan}
 use Rattle.columns.specs.Spell.{spell, left, leftByte, lastByte}
 use Rattle.scenario.specs.Rows.{denials, denying-rows, denying-free, end, far-end, closure, brings, elem}
-use Rattle.scenario.specs.Fields.{rowOf}
+use Rattle.scenario.specs.Fields.{decode}
 use Rattle.scenario.specs.Sheet.{count, total, choices}
 use Rattle.sheet.specs.declared.Line.{Line}
 use Rattle.sheet.specs.declared.Answer.{Answer}
 use Rattle.sheet.specs.Row.{six, lineOf, refusal, sectionFits, refusalWithin, kindFits, pFits, isDue, ordinary, known, qFits, originFits, knownBut, ordinaryBut, bothOrdinary, restFits, setOnly, bothZero, roomFits, enter, advance}
-use Rattle.sheet.specs.Reading.{answer, taken, closing, headOf, rowsFrom, rowBytes, after, sheetOf, section, sections, rowIn, orSame}
+use Rattle.sheet.specs.Reading.{answer, taken, closing, headOf, rowsFrom, rowBytes, after, sheetOf, section, sections, rowIn}
 use Rattle.sheet.specs.Text.{sheetText, headText, rowsText, rowText}
 
 -- What a case says: the accepted bytes and their N, the refused bytes, the refusal and its row (0: the first line).
@@ -237,6 +237,12 @@ order-of-refusals =
     ∷ bytes (sheetText 1 (replicate 24 (whole 1))) 24 (sheetText 1 (replicate 24 (whole 1) ++ (six 1 9 0 99 1 1 ∷ []))) 9 25
     ∷ []
 
-pub the-table : all-told (first-line ++ (row-form ++ (point-p ++ (point-q ++ (fields-used ++ (room-and-count ++ order-of-refusals)))))) ≡ true
-unfolding answer taken closing headOf fieldAt numeral scan sheetText headText rowsText rowText spell left leftByte lastByte rowsFrom rowBytes lineOf refusal sectionFits refusalWithin kindFits pFits isDue ordinary known qFits originFits knownBut ordinaryBut bothOrdinary restFits setOnly bothZero roomFits enter advance after sheetOf section sections rowIn orSame rowOf count total choices denials denying-rows denying-free end far-end closure brings elem
+abbrev table : List Case
+table = first-line ++ (row-form ++ (point-p ++ (point-q ++ (fields-used ++ (room-and-count ++ order-of-refusals)))))
+
+pub the-table-size : length table ≡ 108
+the-table-size = refl
+
+pub the-table : all-told table ≡ true
+unfolding answer taken closing headOf fieldAt numeral scan sheetText headText rowsText rowText spell left leftByte lastByte rowsFrom rowBytes lineOf refusal sectionFits refusalWithin kindFits pFits isDue ordinary known qFits originFits knownBut ordinaryBut bothOrdinary restFits setOnly bothZero roomFits enter advance after sheetOf section sections rowIn decode count total choices denials denying-rows denying-free end far-end closure brings elem
 the-table = refl

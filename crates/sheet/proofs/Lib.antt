@@ -1,7 +1,7 @@
 pub mod Arms
 pub mod Loop
 pub mod Count
-pub mod Store
+pub mod Memory
 pub mod Denials
 pub mod Whole
 pub mod Points

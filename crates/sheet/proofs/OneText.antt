@@ -26,7 +26,7 @@ use Rattle.sheet.specs.Text.{Fits, rowText, rowsText, headText, sheetTex
 use Rattle.sheet.proofs.Accepted.{Accepted}
 use Rattle.columns.proofs.Lines.{past}
 use Rattle.sheet.proofs.Texts.{row-text-length, head-text-length, sheet-text-length, row-at, row-read}
-use Rattle.sheet.proofs.Theorems.{tag, accepted-sheet, accepted-rows}
+use Rattle.sheet.proofs.Theorems.{tag, accepted-sheet}
 
 -- The first line of a text is read as k and the row count.
 
@@ -97,32 +97,6 @@ pub record ReadBack (k : ℕ) (ls : List Line) : Type 0 where
 
 pub text-read : (k : ℕ) (ls : List Line) → Acceptable k ls → ReadBack k ls
 text-read k ls S = record { answered = text-answer k ls S; lines = ap (λ (t : Taken). t .lines) (text-taken k ls S) }
-
--- The bytes that are accepted are the texts of such k and rows.
-pub record Spelt (s : List ℕ) : Type 0 where
-  pub k : ℕ
-  pub lines : List Line
-  pub acceptable : Acceptable k lines
-  pub text : s ≡ sheetText k lines
-
-pub accepted-spelt : (s : List ℕ) → (answer s .refusal ≡ 0) ↔ Spelt s
-accepted-spelt s = (
-  (λ e.
-      let A = accepted-sheet s e in
-      let R = accepted-rows s e in
-      record {
-        k = answer s .k;
-        lines = taken s .lines;
-        acceptable = record {
-          few-consequents = R .few;
-          few-rows = omega (arith, A .size, A .short);
-          in-columns = R .columns;
-          none-refused = R .passed;
-        };
-        text = A .text;
-      }),
-  (λ (S : Spelt s). ap (λ (t : List ℕ). answer t .refusal) (S .text) ∙ ap (λ (a : Answer). a .refusal) (text-read (S .k) (S .lines) (S .acceptable) .answered)),
-)
 
 -- The lines of an accepted sheet, from its rows alone
 pub lines-from-tags : (ls : List Line) → All (λ (l : Line). fields (rowIn l) ≡ five (l .kind) (l .p) (l .q) (l .a) (l .b)) ls → map numbersOf (map tag ls) ≡ ls

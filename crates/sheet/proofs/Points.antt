@@ -8,14 +8,14 @@ use native.Mathlib.Omega.{arith}
 use lib.ListN.{length}
 use lib.Dec.{eqb, leb, ltb}
 use borrow.Author.Tests.{eqb-true, leb-true, ltb-true}
+use Rattle.columns.specs.Number.{largest}
 use Rattle.scenario.specs.Rows.{Row, introduced, needs}
-use Rattle.scenario.specs.Fields.{five, fields, rowOf}
+use Rattle.scenario.specs.Fields.{five, fields, decode}
 use Rattle.scenario.specs.Reading.{All, Ordinary, IsEvents, Seen, first, final, antecedent as seen-antecedent, own as seen-own, RowRead}
+use Rattle.scenario.proofs.Numbers.{any-kind}
 use Rattle.sheet.specs.declared.Stand.{Stand}
 use Rattle.sheet.specs.Row.{advance, ordinary, known, isDue, knownBut, ordinaryBut, bothOrdinary, kindFits, pFits, originFits, qFits, setOnly, bothZero, restFits}
-use Rattle.sheet.specs.Reading.{orSame}
 use Rattle.sheet.proofs.Arms.{kind-high}
-use Rattle.sheet.proofs.Denials.{any-kind}
 
 pub both-true : (a b : Bool) → (a && b) ≡ true → (a ≡ true) × (b ≡ true)
 both-true true b e = (refl, e)
@@ -72,16 +72,16 @@ unfolding isDue
 due-is f m n p e = let b = both-true (ltb n m) (eqb p (f + n + 1)) e in (eqb-true p (f + n + 1) (b .1), ltb-true n m (b .0))
 
 -- A row of a consequent s, where c of its points and a of the antecedent's are introduced
-module _ (s a c : ℕ) (s1 : 1 ≤ s) (s6 : s ≤ 6) (a4 : a ≤ 4) (c8 : c ≤ 8) (p q x b : ℕ) (fits : x ≤ 4294967295) where
+module _ (s a c : ℕ) (s1 : 1 ≤ s) (s6 : s ≤ 6) (a4 : a ≤ 4) (c8 : c ≤ 8) (p q x b : ℕ) (fits : x ≤ largest) where
   abbrev ConsRow : ℕ → Type 0
   ConsRow k =
-      kindFits s k ≡ true → pFits k s a c p ≡ true → qFits k s a c p q x ≡ true → RowRead a s c (orSame (rowOf (five k p q x b)))
+      kindFits s k ≡ true → pFits k s a c p ≡ true → qFits k s a c p q x ≡ true → RowRead a s c (decode k p q x b)
 
   plain : (m : ℕ) → ordinary s a c m ≡ true → Ordinary m
   plain m e = ordinary-plain s a c m s6 a4 c8 e
 
   pub cons-row : (k : ℕ) → ConsRow k
-  unfolding kindFits pFits qFits originFits orSame rowOf IsEvents
+  unfolding kindFits pFits qFits originFits decode IsEvents
   cons-row =
       any-kind ConsRow
       (λ e f g. absurd (never e))
@@ -99,12 +99,12 @@ module _ (s a c : ℕ) (s1 : 1 ≤ s) (s6 : s ≤ 6) (a4 : a ≤ 4) (c8 : c ≤ 
       (λ e f g. record { valid = (plain p f, fits); due = tt; known = (ordinary-seen s a c p f, tt) })
       (λ k e f g. absurd (let h = kind-high (suc (suc (suc (suc (suc (suc (suc (suc (suc (suc (suc (suc (suc k))))))))))))) s e in omega arith))
     where
-      introduced : isDue (10 * s) 8 c p ≡ true → bothOrdinary s a c q x ≡ true → RowRead a s c (orSame (rowOf (five 4 p q x b)))
+      introduced : isDue (10 * s) 8 c p ≡ true → bothOrdinary s a c q x ≡ true → RowRead a s c (decode 4 p q x b)
       introduced f g =
           let o = both-ordinary s a c q x g in
           record { valid = (plain q (o .0), plain x (o .1)); due = (due-is (10 * s) 8 c p f, tt); known = (ordinary-seen s a c q (o .0), (ordinary-seen s a c x (o .1), tt)) }
 
-      introduced' : isDue (10 * s) 8 c p ≡ true → bothOrdinary s a c q x ≡ true → RowRead a s c (orSame (rowOf (five 5 p q x b)))
+      introduced' : isDue (10 * s) 8 c p ≡ true → bothOrdinary s a c q x ≡ true → RowRead a s c (decode 5 p q x b)
       introduced' f g =
           let o = both-ordinary s a c q x g in
           record { valid = (plain q (o .0), plain x (o .1)); due = (due-is (10 * s) 8 c p f, tt); known = (ordinary-seen s a c q (o .0), (ordinary-seen s a c x (o .1), tt)) }
@@ -116,10 +116,10 @@ pub record AnteRow (a : ℕ) (k : Row) : Type 0 where
 
 module _ (a p q x b : ℕ) where
   abbrev Ante : ℕ → Type 0
-  Ante k = kindFits 0 k ≡ true → pFits k 0 a 0 p ≡ true → qFits k 0 a 0 p q x ≡ true → AnteRow a (orSame (rowOf (five k p q x b)))
+  Ante k = kindFits 0 k ≡ true → pFits k 0 a 0 p ≡ true → qFits k 0 a 0 p q x ≡ true → AnteRow a (decode k p q x b)
 
   pub ante-row : (k : ℕ) → Ante k
-  unfolding kindFits pFits qFits originFits orSame rowOf
+  unfolding kindFits pFits qFits originFits decode
   ante-row =
       any-kind Ante
       (λ e f g. absurd (never e))
@@ -144,15 +144,15 @@ module _ (a p q x b : ℕ) where
 module _ (at : Stand) (p q x b : ℕ) where
   abbrev ConsNext : ℕ → Type 0
   ConsNext k =
-      (advance at k .antecedent ≡ at .antecedent) × (advance at k .own ≡ length (introduced (orSame (rowOf (five k p q x b)))) + at .own)
+      (advance at k .antecedent ≡ at .antecedent) × (advance at k .own ≡ length (introduced (decode k p q x b)) + at .own)
 
   abbrev AnteNext : ℕ → Type 0
   AnteNext k =
-      (advance at k .antecedent ≡ length (introduced (orSame (rowOf (five k p q x b)))) + at .antecedent) × (advance at k .own ≡ at .own)
+      (advance at k .antecedent ≡ length (introduced (decode k p q x b)) + at .antecedent) × (advance at k .own ≡ at .own)
 
   module _ (s : ℕ) (s1 : 1 ≤ s) where
     pub cons-next : (k : ℕ) → kindFits s k ≡ true → ConsNext k
-    unfolding kindFits advance orSame rowOf
+    unfolding kindFits advance decode
     cons-next =
         any-kind (λ (k : ℕ). kindFits s k ≡ true → ConsNext k)
         (λ e. absurd (never e))
@@ -171,7 +171,7 @@ module _ (at : Stand) (p q x b : ℕ) where
         (λ k e. absurd (let h = kind-high (suc (suc (suc (suc (suc (suc (suc (suc (suc (suc (suc (suc (suc k))))))))))))) s e in omega arith))
 
   pub ante-next : (k : ℕ) → kindFits 0 k ≡ true → AnteNext k
-  unfolding kindFits advance orSame rowOf
+  unfolding kindFits advance decode
   ante-next =
       any-kind (λ (k : ℕ). kindFits 0 k ≡ true → AnteNext k)
       (λ e. absurd (never e))
@@ -192,7 +192,7 @@ module _ (at : Stand) (p q x b : ℕ) where
 -- The fields that the kind does not mention are 0: the row's numbers are the line's
 module _ (p q x b : ℕ) where
   abbrev Back : ℕ → Type 0
-  Back k = 1 ≤ k → k ≤ 12 → restFits k q x b ≡ true → fields (orSame (rowOf (five k p q x b))) ≡ five k p q x b
+  Back k = 1 ≤ k → k ≤ 12 → restFits k q x b ≡ true → fields (decode k p q x b) ≡ five k p q x b
 
   zero-b : eqb b 0 ≡ true → 0 ≡ b
   zero-b e = sym (eqb-true b 0 e)
@@ -212,7 +212,7 @@ module _ (p q x b : ℕ) where
       (sym (eqb-true q 0 (z .0)), zero-b (both-true (not (eqb x 0)) (eqb b 0) (z .1) .1))
 
   pub fields-back : (k : ℕ) → Back k
-  unfolding restFits orSame rowOf fields
+  unfolding restFits decode fields
   fields-back =
       any-kind Back
       (λ h g e. absurd (omega arith))

@@ -22,7 +22,7 @@ use Rattle.sheet.specs.declared.Stand.{Stand}
 use Rattle.sheet.specs.Row.{six, onField, lineOf, refusal}
 use Rattle.sheet.specs.Reading.{headOf, Taken, stop, more, onLine, after, rowBytes, rowsFrom}
 use Rattle.sheet.proofs.Loop.{row-length}
-use Rattle.sheet.proofs.Store.{Good}
+use Rattle.sheet.proofs.Memory.{Good}
 use Rattle.sheet.proofs.Values.{field-most}
 use Rattle.sheet.specs.Text.{Fits, rowText, rowsText, headText, sheetText}
 

@@ -9,7 +9,7 @@ use native.Mathlib.Omega.{arith}
 use lib.ListN.{length}
 use lib.Dec.{eqb, ltb}
 use borrow.Author.Tests.{eqb-true, eqb-false, ltb-false}
-use Rattle.scenario.specs.Rows.{Row}
+use Rattle.scenario.specs.Rows.{Row, event-count}
 use Rattle.scenario.specs.Fields.{five, fields, Tagged, tagged}
 use Rattle.scenario.specs.Sheet.{Sheet, count, Demand, antiscenario}
 use Rattle.scenario.specs.Search.{check, smallest-matching}
@@ -29,7 +29,7 @@ use Rattle.sheet.specs.Text.{Fits, sheetText}
 use Rattle.sheet.proofs.Texts.{row-fits, text-only}
 use Rattle.sheet.proofs.Arms.{kind-low, kind-high}
 use Rattle.sheet.proofs.Points.{fields-back}
-use Rattle.sheet.proofs.Store.{head-good, rows-full, lines-back}
+use Rattle.sheet.proofs.Memory.{head-good, rows-full, lines-back}
 use Rattle.sheet.proofs.Accepted.{passes, after-section, Accepted, section-in, section-out, passed, sections-length, sheet-read}
 use Rattle.sheet.proofs.Room.{antecedent-room, consequents-room, count-most}
 
@@ -245,7 +245,7 @@ accepted-rows s e =
     (record { few = k6 s e; passed = all-accepted s e; columns = all-fit s e })
 
 -- Demand 3 of every accepted sheet
-pub accepted-demand : (s : List ℕ) → answer s .refusal ≡ 0 → (g : Log) → All (λ (e : ℕ). e < 32) (g .events)
+pub accepted-demand : (s : List ℕ) → answer s .refusal ≡ 0 → (g : Log) → All (λ (e : ℕ). e < event-count) (g .events)
     → Demand (runOf g) (sheetOf (answer s .k) (taken s .lines)) (check (runOf g) (sheetOf (answer s .k) (taken s .lines)))
     (λ m. smallest-matching (runOf g) (antiscenario (sheetOf (answer s .k) (taken s .lines)) m))
 accepted-demand s e g h = demand-three g h (sheetOf (answer s .k) (taken s .lines)) (accepted-sheet s e .read)

@@ -16,12 +16,12 @@ use Rattle.scenario.specs.Sheet.{Sheet, count}
 use Rattle.scenario.specs.Reading.{All, Counted}
 use Rattle.scenario.proofs.Base.{Order, lower, level, upper, order}
 use Rattle.scenario.proofs.Glue.{points-append}
-use Rattle.scenario.proofs.Numbers.{row-back}
+use Rattle.scenario.proofs.Numbers.{decode-fields}
 use Rattle.sheet.specs.declared.Answer.{Answer}
 use Rattle.sheet.specs.declared.Line.{Line}
 use Rattle.sheet.specs.declared.Stand.{Stand}
 use Rattle.sheet.specs.Row.{start, enter, sectionFits, roomFits, refusalWithin, refusal}
-use Rattle.sheet.specs.Reading.{after, orSame, rowIn, section, sections, sheetOf, taken, accepted, answer, sheetIn}
+use Rattle.sheet.specs.Reading.{after, rowIn, section, sections, sheetOf, taken, accepted, answer, sheetIn}
 use Rattle.sheet.specs.Text.{Fits, numbersOf, sheetText}
 use Rattle.sheet.specs.Valid.{rowsOf, sectionsOf, sheetFrom, preceding, Permitted, ValidRow, ValidSheet, rowsSpelt, ValidText}
 use Rattle.sheet.proofs.Accepted.{Passes, passes, enter-ante, enter-new, enter-own, enter-same, after-section, Fair, ante-after, cons-ante, cons-own, fair-after, fair-start, start-own, Accepted}
@@ -32,9 +32,9 @@ use Rattle.sheet.proofs.Permits.{Found, tested, permitted, fitting, sti
 
 -- Rows, and their lines
 
-row-of : (t : Tagged) → rowIn (numbersOf t) ≡ t .row
-unfolding rowIn numbersOf orSame
-row-of t = ap orSame (row-back (t .row))
+pub row-of : (t : Tagged) → rowIn (numbersOf t) ≡ t .row
+unfolding rowIn numbersOf
+row-of t = decode-fields (t .row)
 
 rows-append : (i : ℕ) (a b : List Tagged) → rowsOf i (a ++ b) ≡ rowsOf i a ++ rowsOf i b
 unfolding rowsOf

@@ -10,7 +10,7 @@ use lib.ListN.{length, take}
 use lib.Seq.{length-take-le}
 use lib.Dec.{eqb, leb, lit<}
 use borrow.Author.Tests.{leb-true}
-use Rattle.columns.specs.Number.{afterSpaces, isDigit, allDigits, decimal, wellLed, fieldAt, numeral, scan}
+use Rattle.columns.specs.Number.{afterSpaces, isDigit, allDigits, decimal, wellLed, fieldAt, numeral, scan, largest}
 use Rattle.columns.specs.declared.Field.{Field}
 use Rattle.columns.specs.declared.Field.the-variants.{Value, Bad}
 use Rattle.sheet.proofs.Points.{both-true}
@@ -32,7 +32,7 @@ spaces-shorten (b ∷ l) = go (eqb b 32) (spaces-shorten l)
     go false h = omega arith
 
 abbrev Most : ℕ → Field → Type 0
-Most w (Value v) = (v ≤ 4294967295) × (v < 10 ^ w)
+Most w (Value v) = (v ≤ largest) × (v < 10 ^ w)
 Most w Bad = Unit {0}
 
 most-if : (w : ℕ) (b : Bool) (f : Field) → (b ≡ true → Most w f) → Most w (cond b f Bad)
@@ -45,12 +45,12 @@ most s w =
     let digits = afterSpaces (take w s) in
     most-if w (leb w (length s)) _ (λ a.
     most-if w (wellLed digits) _ (λ b.
-    most-if w (allDigits digits && leb (decimal 0 digits) 4294967295) _ (λ c.
-    let C = both-true (allDigits digits) (leb (decimal 0 digits) 4294967295) c in
+    most-if w (allDigits digits && leb (decimal 0 digits) largest) _ (λ c.
+    let C = both-true (allDigits digits) (leb (decimal 0 digits) largest) c in
     let size : 0 + length digits ≤ w = omega (arith, spaces-shorten (take w s), length-take-le w s (leb-true w (length s) a)) in (
-      leb-true (decimal 0 digits) 4294967295 (C .1),
+      leb-true (decimal 0 digits) largest (C .1),
       le-trans (decimal-below 0 digits 0 (C .0) (lit< tt)) (pow-le-pow-right {n = 10} (lit< tt) {i = 0 + length digits} {j = w} size),
     ))))
 
-pub field-most : (s : List ℕ) (w v : ℕ) → fieldAt s w ≡ Value v → (v ≤ 4294967295) × (v < 10 ^ w)
+pub field-most : (s : List ℕ) (w v : ℕ) → fieldAt s w ≡ Value v → (v ≤ largest) × (v < 10 ^ w)
 field-most s w v e = subst (Most w) e (most s w)

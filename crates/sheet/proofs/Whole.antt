@@ -11,7 +11,7 @@ use Rattle.sheet.specs.declared.Head.{Head}
 use Rattle.sheet.specs.Row.{start}
 use Rattle.sheet.specs.Reading.{headOf, Taken, rowsFrom, sheetOf, taken, refused, accepted, closing, answer}
 use Rattle.sheet.specs.Memory.{lay, linesIn, product}
-use Rattle.sheet.proofs.Store.{Good, head-good, rows-full, lines-back}
+use Rattle.sheet.proofs.Memory.{Good, head-good, rows-full, lines-back}
 use Rattle.sheet.proofs.Denials.{count-product}
 
 module _ (s : List ℕ) (h : Head) (e : h ≡ headOf s) where

@@ -1,16 +1,15 @@
--- "Read a sheet (gives N)" of document 01, from the bytes: first line, then row by row, last the count.
+-- "Read a sheet (gives N)" of document 01, from the bytes: first line, then row by row, last the count. What must be believed.
 -- Assumes nothing.
 use mathlib.Core.Bool.{not, cond}
 use mathlib.Core.List.{List, [], _∷_}
-use mathlib.Core.Option.{Option, none, some}
 use Prim.Native.Nat.{ℕ, zero, suc, _+_, _*_, _^_}
 use lib.ListN.{length, getD, take, drop}
 use lib.Dec.{ltb, eqb}
 use Rattle.columns.specs.Number.{fieldAt}
 use Rattle.columns.specs.declared.Field.{Field}
 use Rattle.columns.specs.declared.Field.the-variants.{Value, Bad}
-use Rattle.scenario.specs.Rows.{Row, same}
-use Rattle.scenario.specs.Fields.{five, rowOf}
+use Rattle.scenario.specs.Rows.{Row}
+use Rattle.scenario.specs.Fields.{decode}
 use Rattle.scenario.specs.Sheet.{Sheet, count}
 use Rattle.sheet.specs.declared.Line.{Line}
 use Rattle.sheet.specs.declared.Stand.{Stand}
@@ -79,13 +78,9 @@ rowsFrom k s i (suc left) at =
 
 -- The sheet of the rows
 
-unfoldable pub orSame : Option Row → Row
-orSame none = same 0 0
-orSame (some r) = r
-
 -- the row of a line, with the fields that its kind mentions; kinds are known once the row is accepted
 unfoldable pub rowIn : Line → Row
-rowIn l = orSame (rowOf (five (l .kind) (l .p) (l .q) (l .a) (l .b)))
+rowIn l = decode (l .kind) (l .p) (l .q) (l .a) (l .b)
 
 -- the rows of section i, in sheet order
 unfoldable pub section : ℕ → List Line → List Row

@@ -1,10 +1,11 @@
--- One row of a sheet: its six numbers (refusal 4), and the refusals 5 to 10 in the order of document 01.
+-- One row of a sheet: its six numbers (refusal 4), and the refusals 5 to 10 in the order of document 01. What must be believed.
 -- Assumes nothing.
 use mathlib.Core.Bool.{Bool, true, not, _&&_, _||_, cond}
 use mathlib.Core.List.{List}
 use Prim.Native.Nat.{ℕ, _+_, _*_}
 use lib.ListN.{getD, drop}
 use lib.Dec.{ltb, leb, eqb}
+use Rattle.scenario.specs.Rows.{close-point}
 use Rattle.columns.specs.Number.{fieldAt}
 use Rattle.columns.specs.declared.Field.{Field}
 use Rattle.columns.specs.declared.Field.the-variants.{Value, Bad}
@@ -58,7 +59,7 @@ ordinary s antecedent own m = (leb 1 m && leb m antecedent) || (ltb (10 * s) m &
 
 -- "0 is the start and 99 the close, always known"
 unfoldable pub known : (s antecedent own m : ℕ) → Bool
-known s antecedent own m = eqb m 0 || (eqb m 99 || ordinary s antecedent own m)
+known s antecedent own m = eqb m 0 || (eqb m close-point || ordinary s antecedent own m)
 
 -- 5 "section above k or below the preceding row's"
 unfoldable pub sectionFits : (k preceding s : ℕ) → Bool
@@ -99,7 +100,7 @@ bothOrdinary s antecedent own q other = ordinaryBut s antecedent own q other && 
 -- the points that p's position comes from: NEXT "q is not 99", LAST "q is not 0", EARLIER and LATER q "and point number a"
 unfoldable pub originFits : (kind s antecedent own q a : ℕ) → Bool
 originFits kind s antecedent own q a =
-    cond (eqb kind 2) (knownBut s antecedent own q 99)
+    cond (eqb kind 2) (knownBut s antecedent own q close-point)
     (cond (eqb kind 3) (knownBut s antecedent own q 0)
     (bothOrdinary s antecedent own q a))
 

@@ -1,8 +1,9 @@
--- The text of a sheet: "a sheet's first line (k, its row count) and rows".
+-- The text of a sheet: "a sheet's first line (k, its row count) and rows". What must be believed.
 -- Assumes nothing.
 use mathlib.Core.List.{List, [], _∷_, _++_, map}
 use Prim.Native.Nat.{ℕ, _≤_, _<_}
 use lib.ListN.{length}
+use Rattle.columns.specs.Number.{largest}
 use Rattle.columns.specs.Spell.{spell}
 use Rattle.scenario.specs.Fields.{fields, Tagged, tagged}
 use Rattle.scenario.specs.Sheet.{Sheet}
@@ -15,8 +16,8 @@ pub record Fits (l : Line) : Type 0 where
   pub kind : l .kind < 1000
   pub p : l .p < 1000
   pub q : l .q < 1000
-  pub a : l .a ≤ 4294967295
-  pub b : l .b ≤ 4294967295
+  pub a : l .a ≤ largest
+  pub b : l .b ≤ largest
 
 unfoldable pub rowText : Line → List ℕ
 rowText l =

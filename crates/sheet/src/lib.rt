@@ -1,10 +1,10 @@
 // Reading a sheet, in the order of document 01: first line, rows, N. The public operation is `read_sheet`; `load_sheet` fills lent memory for the others.
 ghost use mathlib.Core.Path.{_≡_};
 ghost use Prim.Native.Nat.{_+_, _*_, _≤_, _<_};
-ghost use lib.ListN.{length, replicate};
+ghost use lib.ListN.{length, replicate, set};
 ghost use Rattle.sheet.specs.Row.{lineOf, enter, advance, ordinary, known, kindFits, pFits, originFits, qFits, restFits, roomFits, refusalWithin, refusal, isDue, bothOrdinary, ordinaryBut, knownBut, setOnly, bothZero, start};
 ghost use Rattle.sheet.specs.Reading.{headed, headOf, rowsFrom, taken, refused, answer, countOf};
-ghost use Rattle.sheet.specs.Memory.{put, lay, linesIn, edge, weightFree, weight, weighLine, lineIn, Weighed, product};
+ghost use Rattle.sheet.specs.Memory.{put, lay, linesIn, edge, weightFree, weight, weighLine, lineIn, sectionAt, kindAt, pAt, qAt, aAt, bAt, Weighed, product};
 
 // Document 01, "Sheet": at most 6 consequents, 176 rows, 32 of them in the antecedent and 24 in a consequent. So N is at most 48^6.
 const MOST_CONSEQUENTS: u32 = 6;
@@ -15,13 +15,16 @@ const MOST_ANTECEDENT_ROWS: u32 = 32;
 
 const MOST_CONSEQUENT_ROWS: u32 = 24;
 
+// Room for 176 rows, six numbers to a row.
+pub const SHEET_ROOM: usize = 1056;
+
 // The antecedent and the consequents.
 pub const SECTIONS: usize = 7;
 
 // Points: 0 is the start and 99 the close; the antecedent introduces up to 4, a consequent up to 8.
 const START: u32 = 0;
 
-const CLOSE: u32 = 99;
+pub const CLOSE: u32 = 99;
 
 const ANTECEDENT_POINTS: u32 = 4;
 
@@ -449,18 +452,84 @@ fn after_row(at: Stand, kind: u32) -> Stand
     }
 }
 
-// Stores a row as number i, from 0.
-fn put_line(rows: &mut [u32], i: usize, line: Line)
-    requires { ⌜ (i < 176) × (1056 ≤ length (now rows)) ⌝ }
+// Stores v at index i, where there is one.
+pub fn store(m: &mut [u32], i: usize, v: u32)
+    ensures { λ _. ⌜ now (m .exit) ≡ set (now (m .entry)) i v ⌝ }
+{
+    if i < m.len() {
+        m[i] = v;
+    }
+}
+
+// A row in memory is six numbers, in the order of the columns: row number i, from 0, begins at index 6i.
+pub fn section_of(rows: &[u32], i: usize) -> u32
+    requires { ⌜ 6 * i + 6 ≤ length (now rows) ⌝ }
+    ensures { λ r. ⌜ r ≡ sectionAt (now (rows .entry)) i ⌝ }
+{
+    rows[6 * i]
+}
+
+pub fn kind_of(rows: &[u32], i: usize) -> u32
+    requires { ⌜ 6 * i + 6 ≤ length (now rows) ⌝ }
+    ensures { λ r. ⌜ r ≡ kindAt (now (rows .entry)) i ⌝ }
+{
+    rows[6 * i + 1]
+}
+
+pub fn p_of(rows: &[u32], i: usize) -> u32
+    requires { ⌜ 6 * i + 6 ≤ length (now rows) ⌝ }
+    ensures { λ r. ⌜ r ≡ pAt (now (rows .entry)) i ⌝ }
+{
+    rows[6 * i + 2]
+}
+
+pub fn q_of(rows: &[u32], i: usize) -> u32
+    requires { ⌜ 6 * i + 6 ≤ length (now rows) ⌝ }
+    ensures { λ r. ⌜ r ≡ qAt (now (rows .entry)) i ⌝ }
+{
+    rows[6 * i + 3]
+}
+
+pub fn a_of(rows: &[u32], i: usize) -> u32
+    requires { ⌜ 6 * i + 6 ≤ length (now rows) ⌝ }
+    ensures { λ r. ⌜ r ≡ aAt (now (rows .entry)) i ⌝ }
+{
+    rows[6 * i + 4]
+}
+
+pub fn b_of(rows: &[u32], i: usize) -> u32
+    requires { ⌜ 6 * i + 6 ≤ length (now rows) ⌝ }
+    ensures { λ r. ⌜ r ≡ bAt (now (rows .entry)) i ⌝ }
+{
+    rows[6 * i + 5]
+}
+
+// The whole row.
+pub fn line_at(rows: &[u32], i: usize) -> Line
+    requires { ⌜ 6 * i + 6 ≤ length (now rows) ⌝ }
+    ensures { λ r. ⌜ r ≡ lineIn (now (rows .entry)) i ⌝ }
+{
+    Line {
+        section: section_of(rows, i),
+        kind: kind_of(rows, i),
+        p: p_of(rows, i),
+        q: q_of(rows, i),
+        a: a_of(rows, i),
+        b: b_of(rows, i),
+    }
+}
+
+// Stores a row as number i, where there is room.
+pub fn put_line(rows: &mut [u32], i: usize, line: Line)
+    requires { ⌜ i ≤ 2000 ⌝ }
     ensures { λ _. ⌜ now (rows .exit) ≡ put i line (now (rows .entry)) ⌝ }
 {
-    let at = 6 * i;
-    rows[at] = line.section;
-    rows[at + 1] = line.kind;
-    rows[at + 2] = line.p;
-    rows[at + 3] = line.q;
-    rows[at + 4] = line.a;
-    rows[at + 5] = line.b;
+    store(rows, 6 * i, line.section);
+    store(rows, 6 * i + 1, line.kind);
+    store(rows, 6 * i + 2, line.p);
+    store(rows, 6 * i + 3, line.q);
+    store(rows, 6 * i + 4, line.a);
+    store(rows, 6 * i + 5, line.b);
 }
 
 // "then row by row": n rows into the memory, until one is refused.
@@ -544,11 +613,10 @@ pub fn weigh_at(rows: &[u32], i: usize, section: u32) -> u64
     requires { ⌜ (i < 176) × (1056 ≤ length (now rows)) ⌝ }
     ensures { λ r. ⌜ (r ≡ weighLine section (lineIn (now (rows .entry)) i)) × (r ≤ 2) ⌝ }
 {
-    let at = 6 * i;
-    if rows[at] != section {
+    if section_of(rows, i) != section {
         return 0;
     }
-    weigh(rows[at + 1], rows[at + 2], rows[at + 3])
+    weigh(kind_of(rows, i), p_of(rows, i), q_of(rows, i))
 }
 
 // How many denials each section has, by its number, in one walk over the rows.
@@ -558,13 +626,13 @@ pub fn weigh_sections(rows: &[u32], n: usize, denials: &mut [u64; SECTIONS])
 {
     let mut i: usize = 0;
     while i < n {
-        let at = 6 * i;
+        let j = i;
         i += 1;
-        let section = rows[at] as usize;
+        let section = section_of(rows, j) as usize;
         if SECTIONS <= section {
             continue;
         }
-        denials[section] += weigh(rows[at + 1], rows[at + 2], rows[at + 3]);
+        denials[section] += weigh(kind_of(rows, j), p_of(rows, j), q_of(rows, j));
     }
 }
 
@@ -634,7 +702,7 @@ pub fn load_sheet(s: &[u8], rows: &mut [u32]) -> Answer
 pub fn read_sheet(sheet: &[u8]) -> SheetCount
     ensures { λ r. ⌜ r ≡ countOf (now (sheet .entry)) ⌝ }
 {
-    let mut rows = [0u32; 1056];
+    let mut rows = [0u32; SHEET_ROOM];
     let read = load_sheet(sheet, &mut rows);
     SheetCount {
         refusal: read.refusal,

@@ -9,6 +9,7 @@ use Prim.Native.Nat.{ℕ, zero, suc, _+_, _*_, _≤_, _<_}
 use native.Mathlib.Omega.{arith}
 use lib.ListN.{length, getD, drop}
 use lib.Dec.{T, eqb, ltb}
+use Rattle.runlog.specs.Numbers.{last-event}
 use Rattle.columns.specs.Number.{fieldAt}
 use Rattle.columns.specs.declared.Field.{Field}
 use Rattle.columns.specs.declared.Field.the-variants.{Value, Bad}
@@ -101,7 +102,7 @@ line-low last t =
     low-on (fieldAt t 11) _ (λ tick.
     low-on (fieldAt (drop 11 t) 3) _ (λ event.
     low-if (not (eqb (getD t 14 0) 10)) _ _ (omega arith)
-    (low-if (ltb 31 event) _ _ (omega arith)
+    (low-if (ltb last-event event) _ _ (omega arith)
     (low-if (ltb tick last) (Refused 26) (Line tick event) (omega arith) tt))))
 
 lines-low : (l : List ℕ) (left i last : ℕ) → log.linesFrom l i left last .number ≤ 26

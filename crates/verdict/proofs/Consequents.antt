@@ -27,10 +27,11 @@ use Rattle.scenario.proofs.Reading.{sound}
 use Rattle.runlog.proofs.Whole.{lay-is}
 use Rattle.search.proofs.Found.{listed-mem}
 use Rattle.verdict.specs.Check.{front}
-use Rattle.pattern.specs.Decode.{by, rowAt}
+use Rattle.sheet.specs.Memory.{sectionAt, rowAt, tagAt, tagsOf}
+use Rattle.pattern.specs.Placing.{by}
 use Rattle.runlog.specs.Held.{orZero}
 use Rattle.runlog.specs.Log.{lay}
-use Rattle.verdict.specs.Consequents.{ontoIn, stayIn, advanceIn, orKeep, tagAt, tagsOf, onward, faultIn, faulty, faultsIn, Elsewhere, Kept}
+use Rattle.verdict.specs.Consequents.{ontoIn, stayIn, advanceIn, orKeep, onward, faultIn, faulty, faultsIn, Elsewhere, Kept}
 use Rattle.verdict.specs.Memory.{sheetAt, SheetHeld}
 use Rattle.verdict.proofs.Steps.{advance-keeps}
 
@@ -270,7 +271,7 @@ pub kept-on : (ts : List Tagged) (E E' E″ : List ℕ) → Kept ts E E' → Kep
 kept-on ts E E' E″ K K' = record { size = K' .size ∙ K .size; same = λ m o. K' .same m o ∙ K .same m o }
 
 -- row j of consequent c + 1
-pub row-keeps : (run : Run) (rows : List ℕ) (count : ℕ) (E E' : List ℕ) (j c s : ℕ) → j < count → s ≡ getD rows (6 * j) 0 → s ≡ c + 1 → (r : Row) → r ≡ rowAt rows j
+pub row-keeps : (run : Run) (rows : List ℕ) (count : ℕ) (E E' : List ℕ) (j c s : ℕ) → j < count → s ≡ sectionAt rows j → s ≡ c + 1 → (r : Row) → r ≡ rowAt rows j
     → length E' ≡ length E → E' ≡ orKeep E (advanceIn run E r) → Kept (tagsOf rows count) E E'
 unfolding tagsOf
 row-keeps run rows count E E' j c s h es sc r er el ee = record {

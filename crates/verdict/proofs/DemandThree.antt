@@ -11,7 +11,7 @@ use lib.ListN.{length, take, drop, replicate, length-append}
 use lib.Seq.{take-at}
 use lib.Dec.{T}
 use borrow.Author.Tests.{eq-eqb, le-ltb, le-leb}
-use Rattle.scenario.specs.Rows.{Run, points}
+use Rattle.scenario.specs.Rows.{Run, points, event-count}
 use Rattle.scenario.specs.Sheet.{Sheet, matching, cut, count, flat, chosen, antiscenario, Violating, no-larger, Answer, nothing, found, Says, Demand}
 use Rattle.scenario.specs.Search.{smallest-matching, check, faults, RowsAtFault}
 use Rattle.scenario.specs.Reading.{All}
@@ -52,7 +52,7 @@ module _ (s l : List ℕ) (A : Accepted s l) where
   N : countIn s ≡ count sheet
   N = accepted-sheet s (A .sheet) .count
 
-  low : All (λ (e : ℕ). e < 32) (logOf l .events)
+  low : All (λ (e : ℕ). e < event-count) (logOf l .events)
   unfolding logOf
   low = accepted-log l (A .log) .low
 

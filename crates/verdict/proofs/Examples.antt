@@ -146,15 +146,15 @@ starred =
 pub starred-examples : map (λ (x : Example). answered (x .sheet) (x .log) (x .number)) starred ≡ map (λ (x : Example). x .answers) starred
 unfolding number.fieldAt number.numeral number.scan spelling.spell spelling.left spelling.leftByte spelling.lastByte
     text.sheetText text.headText text.rowsText text.rowText
-    reading.answer reading.taken reading.closing reading.headOf reading.rowsFrom reading.rowBytes reading.after reading.sheetOf reading.section reading.sections reading.rowIn reading.orSame
+    reading.answer reading.taken reading.closing reading.headOf reading.rowsFrom reading.rowBytes reading.after reading.sheetOf reading.section reading.sections reading.rowIn
     row.lineOf row.refusal row.sectionFits row.refusalWithin row.originFits row.kindFits row.pFits row.isDue row.ordinary row.known row.qFits row.knownBut row.ordinaryBut row.bothOrdinary row.restFits row.setOnly row.bothZero row.roomFits row.enter row.advance
     log.answer log.taken log.closing log.headOf log.linesFrom log.lineBytes log.lineOf log.logOf
     rows.denials rows.denying-rows rows.denying-free rows.end rows.far-end rows.closure rows.brings rows.elem rows.complement rows.meets rows.points rows.clear rows.below rows.between
-    fields.rowOf fields.fields fields.tagged fields.written
+    fields.decode fields.fields fields.tagged fields.written
     sheets.count sheets.total sheets.choices sheets.choose sheets.chosen sheets.flat sheets.antiscenario sheets.matching sheets.all sheets.is-line sheets.env sheets.lookup
     logs.inSet logs.hasAt logs.tick logs.nearAt walks.placing walks.lowest-above walks.highest-below walks.advance walks.walk
     searches.sweep searches.least searches.smallest-matching searches.is-violating searches.check searches.faults
-    writing.writeOf writing.writtenText writing.writtenLines building.taggedLine building.lineFrom matchings.filled judging.refusalOf searching.searchOf
+    writing.writeOf writing.writtenText writing.writtenLines building.lineFrom text.numbersOf matchings.filled judging.refusalOf searching.searchOf
     checkOf verdictOf violatedAt front
 starred-examples = refl
 

@@ -3,7 +3,7 @@
 use mathlib.Core.Path.{_≡_, refl, sym, _∙_, ap, ap₂, subst}
 use mathlib.Core.Bool.{Bool, true, false, not, _&&_}
 use mathlib.Core.List.{List, [], _∷_, _++_, map, append-nil}
-use Prim.Native.Nat.{ℕ, zero, suc, _+_, _-_, _*_, _≤_, _<_}
+use Prim.Native.Nat.{ℕ, zero, suc, _+_, _-_, _≤_, _<_}
 use native.Mathlib.Numerals.{add-one}
 use native.Mathlib.Omega.{arith}
 use lib.ListN.{length, getD, set, take, drop, replicate, length-map, length-append, getD-replicate}
@@ -25,7 +25,8 @@ use Rattle.scenario.proofs.Prefix.{least-none}
 use Rattle.scenario.proofs.Reading.{sound}
 use Rattle.scenario.proofs.Agreement.{Base, is-start, is-close, is-antecedent}
 use Rattle.runlog.specs.Held.{Held, runAt}
-use Rattle.pattern.specs.Decode.{by, rowAt, listed, rowsOf}
+use Rattle.sheet.specs.Memory.{sectionAt, rowAt, listed, rowsOf, tagAt, tagsOf}
+use Rattle.pattern.specs.Placing.{by}
 use Rattle.search.specs.Matching.{after, next-matching, isFound}
 use Rattle.search.specs.Placing.{dueOf, ready, planOf, Prepared, Fixture, Latest, Begun}
 use Rattle.runlog.proofs.Logs.{seen-laws, part-length}
@@ -35,7 +36,7 @@ use Rattle.scenario.proofs.Patterns.{antiscenario-pattern}
 use Rattle.verdict.specs.declared.Checked.{Checked}
 use Rattle.verdict.specs.declared.Faults.{Faults}
 use Rattle.verdict.specs.Check.{front, violatedAt, verdictOf, blank}
-use Rattle.verdict.specs.Consequents.{tagAt, tagsOf, faultsIn, Kept}
+use Rattle.verdict.specs.Consequents.{faultsIn, Kept}
 use Rattle.verdict.specs.Memory.{sheetAt, SheetHeld, leading, AntecedentPrepared}
 use Rattle.verdict.proofs.Consequents.{tag, faults-length, all-halt, fault-rows, base-elsewhere}
 use Rattle.search.proofs.Steps.{never}
@@ -131,7 +132,7 @@ module _ (rows : List ℕ) (count j : ℕ) where
   unfolding leading listed
   lead-end h = let e : count - j ≡ 0 = omega arith in rw e
 
-  module _ (h : j < count) (s : ℕ) (es : s ≡ getD rows (6 * j) 0) where
+  module _ (h : j < count) (s : ℕ) (es : s ≡ sectionAt rows j) where
     more : count - j ≡ suc (count - (j + 1))
     more = omega arith
 

@@ -1,48 +1,32 @@
 -- What reading leaves in memory is the sheet and the log that the check asks for.
 -- Assumes nothing.
-use mathlib.Core.Path.{_≡_, refl, sym, _∙_, ap, ap₂, subst}
+use mathlib.Core.Path.{_≡_, sym, _∙_, ap, ap₂, subst}
 use mathlib.Core.List.{List, _∷_, map}
-use Prim.Native.Nat.{ℕ, zero, suc, _-_, _*_, _≤_}
+use Prim.Native.Nat.{ℕ, _-_, _≤_}
 use native.Mathlib.Omega.{arith}
-use lib.ListN.{length, getD, replicate}
+use lib.ListN.{length, replicate}
 use borrow.Author.Tests.{eq-eqb, ne-eqb}
-use Rattle.scenario.specs.Rows.{Row}
 use Rattle.scenario.specs.Log.{Log, runOf}
 use Rattle.scenario.specs.Sheet.{Sheet}
 use Rattle.scenario.specs.Search.{check}
-use Rattle.scenario.specs.Fields.{Fields, five, fields, Tagged, tagged}
-use Rattle.scenario.specs.Reading.{All, SheetRead}
-use Rattle.sheet.specs.declared.Line.{Line}
-use Rattle.sheet.specs.Reading.{sheetIn, sheetOf, rowIn, taken as sheet-taken, answer as sheet-answer}
-use Rattle.sheet.specs.Memory.{lineIn, linesIn, lay as lay-rows}
+use Rattle.scenario.specs.Fields.{tagged}
+use Rattle.scenario.specs.Reading.{SheetRead}
+use Rattle.sheet.specs.Reading.{sheetIn, sheetOf, taken as sheet-taken, answer as sheet-answer}
+use Rattle.sheet.specs.Memory.{lineIn, linesIn, lay as lay-rows, rowAt, tagsOf}
+use Rattle.sheet.proofs.Memory.{listed-lines}
 use Rattle.sheet.proofs.Theorems.{tag as tag-line, accepted-sheet, few-rows}
 use Rattle.runlog.specs.declared.Answer.{Answer}
 use Rattle.runlog.specs.Log.{answer}
 use Rattle.runlog.specs.Held.{Held, runAt, Loaded}
-use Rattle.pattern.specs.Decode.{decode, rowAt, listed}
-use Rattle.pattern.proofs.Rows.{decode-fields}
 use Rattle.verdict.specs.declared.Checked.{Checked}
 use Rattle.sheet.specs.declared.Answer.{Answer as SheetAnswer}
 use Rattle.verdict.specs.Check.{verdictOf, blank, checkOf, Accepted}
 use Rattle.verdict.specs.Demands.{DemandThree}
 use Rattle.verdict.proofs.DemandThree.{check-is, demand-bytes}
-use Rattle.verdict.specs.Consequents.{tagAt, tagsOf}
 use Rattle.verdict.specs.Memory.{sheetAt, SheetHeld}
 use Rattle.search.specs.Searching.{searchOf}
 
 -- The sheet
-
-row-one : (m : List ℕ) (j : ℕ) → fields (rowIn (lineIn m j)) ≡ five (lineIn m j .kind) (lineIn m j .p) (lineIn m j .q) (lineIn m j .a) (lineIn m j .b) → tagAt m j ≡ tag-line (lineIn m j)
-unfolding rowAt lineIn
-row-one m j e =
-    ap (λ (r : Row). record { section = getD m (6 * j) 0; row = r })
-    (sym (ap (λ (f : Fields). decode (f .kind) (f .p) (f .q) (f .a) (f .b)) e) ∙ decode-fields (rowIn (lineIn m j)))
-
-tags-lines : (m : List ℕ) (left j : ℕ) → All (λ (l : Line). fields (rowIn l) ≡ five (l .kind) (l .p) (l .q) (l .a) (l .b)) (linesIn m j left)
-    → listed (tagAt m) j left ≡ map tag-line (linesIn m j left)
-unfolding listed linesIn
-tags-lines m zero j a = refl
-tags-lines m (suc left) j a = ap₂ (λ (x : Tagged) (xs : List Tagged). x ∷ xs) (row-one m j (a .0)) (tags-lines m left (suc j) (a .1))
 
 module _ (s : List ℕ) (e : sheet-answer s .refusal ≡ 0) (m₀ m : List ℕ) (room : 1056 ≤ length m₀) (em : m ≡ lay-rows 0 (sheet-taken s .lines) m₀) where
   lines-back : linesIn m 0 (sheet-answer s .rows) ≡ sheet-taken s .lines
@@ -52,11 +36,8 @@ module _ (s : List ℕ) (e : sheet-answer s .refusal ≡ 0) (m₀ m : List ℕ) 
   sheet-is = ap (sheetOf (sheet-answer s .k)) lines-back
 
   tags-are : tagsOf m (sheet-answer s .rows) ≡ tagged 0 (sheetIn s .antecedent ∷ sheetIn s .consequents)
-  unfolding tagsOf
-  tags-are =
-      tags-lines m (sheet-answer s .rows) 0
-      (subst (All (λ (l : Line). fields (rowIn l) ≡ five (l .kind) (l .p) (l .q) (l .a) (l .b))) (sym lines-back) (accepted-sheet s e .numbers))
-      ∙ ap (map tag-line) lines-back ∙ sym (accepted-sheet s e .rows)
+  unfolding tagsOf rowAt lineIn
+  tags-are = listed-lines tag-line m (sheet-answer s .rows) 0 ∙ ap (map tag-line) lines-back ∙ sym (accepted-sheet s e .rows)
 
   pub sheet-held : SheetHeld m (sheet-answer s .rows) (sheet-answer s .k)
   sheet-held = record {

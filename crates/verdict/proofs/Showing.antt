@@ -21,7 +21,7 @@ use Rattle.sheet.specs.declared.Parsed.{Parsed}
 use Rattle.sheet.specs.declared.Parsed.the-variants.{Row as Parsed·row, Malformed}
 use Rattle.sheet.specs.Row.{start, lineOf, refusal}
 use Rattle.sheet.specs.Reading as reading
-use Rattle.sheet.proofs.Store.{head-good as sheet-head-good}
+use Rattle.sheet.proofs.Memory.{head-good as sheet-head-good}
 use Rattle.runlog.specs.declared.Head.{Head as LogHead}
 use Rattle.runlog.specs.declared.Answer.{Answer as LogAnswer}
 use Rattle.runlog.specs.declared.LineRead.{LineRead}

@@ -4,7 +4,7 @@ use mathlib.Core.Path.{_≡_, refl, sym, _∙_, ap, ap₂, subst}
 use mathlib.Core.Bool.{Bool, true, false, not, cond}
 use mathlib.Core.Option.{Option, none, some}
 use mathlib.Core.List.{List}
-use Prim.Native.Nat.{ℕ, zero, suc, _+_, _-_, _*_, _≤_, _<_, min, max}
+use Prim.Native.Nat.{ℕ, zero, suc, _+_, _-_, _≤_, _<_, min, max}
 use native.Mathlib.Numerals.{add-one}
 use native.Mathlib.Omega.{arith}
 use lib.ListN.{getD, set}
@@ -14,12 +14,13 @@ use borrow.Author.Tests.{eq-eqb, ne-eqb}
 use Rattle.scenario.specs.Rows.{Row, point, next, last, earlier, later, before, apart, same, free, within, outside, event, Run, meets, introduced}
 use Rattle.scenario.specs.Walk.{lowest-above, highest-below}
 use Rattle.scenario.specs.Log.{hasAt}
-use Rattle.scenario.specs.Fields.{Tagged}
+use Rattle.scenario.specs.Fields.{decode, Tagged}
 use Rattle.scenario.specs.Reading.{All}
 use Rattle.runlog.specs.Held.{Held, part, runAt, orZero}
-use Rattle.pattern.specs.Decode.{decode, by, rowAt, listed}
+use Rattle.sheet.specs.Memory.{sectionAt, rowAt, listed, tagAt}
+use Rattle.pattern.specs.Placing.{by}
 use Rattle.runlog.proofs.Logs.{part-length}
-use Rattle.verdict.specs.Consequents.{ontoIn, stayIn, advanceIn, isSome, orKeep, tagAt, onward, faultIn, faulty, faultsIn}
+use Rattle.verdict.specs.Consequents.{ontoIn, stayIn, advanceIn, isSome, orKeep, onward, faultIn, faulty, faultsIn}
 
 -- what is put is what was found
 onto-met : (b : Bool) (E F : List ℕ) → isSome (cond b none (some F)) ≡ not b
@@ -152,11 +153,11 @@ module _ (run : Run) (rows : List ℕ) (count i : ℕ) (E : List ℕ) (j : ℕ) 
     more : count - j ≡ suc (count - (j + 1))
     more = omega arith
 
-    pub fault-other : (getD rows (6 * j) 0 ≡ i → ⊥) → rest E j ≡ rest E (j + 1)
+    pub fault-other : (sectionAt rows j ≡ i → ⊥) → rest E j ≡ rest E (j + 1)
     unfolding faultIn listed
     fault-other ns = rw more (simp (ne-eqb _ _ ns, add-one))
 
-    opened : getD rows (6 * j) 0 ≡ i → rest E j ≡ onward (advanceIn run E (rowAt rows j)) (j + 1) (λ E'. rest E' (j + 1))
+    opened : sectionAt rows j ≡ i → rest E j ≡ onward (advanceIn run E (rowAt rows j)) (j + 1) (λ E'. rest E' (j + 1))
     unfolding faultIn listed
     opened s = rw more (simp (eq-eqb _ _ s, add-one))
 
@@ -168,14 +169,14 @@ module _ (run : Run) (rows : List ℕ) (count i : ℕ) (E : List ℕ) (j : ℕ) 
     go-on none f e = let z : _≡_ {A = ℕ} 0 1 = cc in absurd (omega arith)
     go-on (some E') f e = refl
 
-    pub fault-here : getD rows (6 * j) 0 ≡ i → isSome (advanceIn run E (rowAt rows j)) ≡ false → rest E j ≡ j + 1
+    pub fault-here : sectionAt rows j ≡ i → isSome (advanceIn run E (rowAt rows j)) ≡ false → rest E j ≡ j + 1
     fault-here s e = opened s ∙ stop-at (advanceIn run E (rowAt rows j)) (λ E'. rest E' (j + 1)) e
 
-    pub fault-on : getD rows (6 * j) 0 ≡ i → isSome (advanceIn run E (rowAt rows j)) ≡ true → rest E j ≡ rest (orKeep E (advanceIn run E (rowAt rows j))) (j + 1)
+    pub fault-on : sectionAt rows j ≡ i → isSome (advanceIn run E (rowAt rows j)) ≡ true → rest E j ≡ rest (orKeep E (advanceIn run E (rowAt rows j))) (j + 1)
     fault-on s e = opened s ∙ go-on (advanceIn run E (rowAt rows j)) (λ E'. rest E' (j + 1)) e
 
     -- the same with what the code has at hand
-    module _ (s : ℕ) (es : s ≡ getD rows (6 * j) 0) where
+    module _ (s : ℕ) (es : s ≡ sectionAt rows j) where
       pub skip : (s ≡ i → ⊥) → rest E j ≡ rest E (j + 1)
       skip n = fault-other (λ e. n (es ∙ e))
 

@@ -1,4 +1,4 @@
--- Check: the sheet's refusals, then the log's; else holds, or violated with the smallest violating placement and the rows at fault.
+-- Check: the sheet's refusals, then the log's; else holds, or violated with the smallest violating placement and the rows at fault. What must be believed.
 -- Assumes nothing.
 use mathlib.Core.Path.{_≡_}
 use mathlib.Core.Bool.{true, false, not, cond}

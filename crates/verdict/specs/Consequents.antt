@@ -1,17 +1,17 @@
--- The walk over a consequent as it goes: positions in an array by point number, rows in memory, six numbers to a row.
+-- The walk over a consequent as it goes: positions in an array by point number, rows in memory, six numbers to a row. Inner vocabulary.
 -- Assumes nothing.
 use mathlib.Core.Path.{_≡_}
 use mathlib.Core.Bool.{Bool, true, false, cond}
 use mathlib.Core.Option.{Option, none, some}
 use mathlib.Core.List.{List, [], _∷_}
-use Prim.Native.Nat.{ℕ, zero, suc, _-_, _*_, min, max}
+use Prim.Native.Nat.{ℕ, zero, suc, _-_, min, max}
 use lib.ListN.{length, getD, set}
 use lib.Dec.{eqb}
 use Rattle.scenario.specs.Rows.{Row, point, next, last, earlier, later, before, apart, same, free, within, outside, event, Run, meets, introduced}
 use Rattle.scenario.specs.Walk.{lowest-above, highest-below}
 use Rattle.scenario.specs.Fields.{Tagged}
 use Rattle.scenario.specs.Reading.{All}
-use Rattle.pattern.specs.Decode.{by, rowAt, listed}
+use Rattle.pattern.specs.Placing.{by}
 use Rattle.runlog.specs.Held.{orZero}
 use Rattle.verdict.specs.declared.Faults.{Faults}
 
@@ -44,13 +44,6 @@ isSome (some E) = true
 abbrev pub orKeep : List ℕ → Option (List ℕ) → List ℕ
 orKeep E none = E
 orKeep E (some E') = E'
-
--- rows in memory, with their sections
-abbrev pub tagAt : List ℕ → ℕ → Tagged
-tagAt rows j = record { section = getD rows (6 * j) 0; row = rowAt rows j }
-
-unfoldable pub tagsOf : List ℕ → ℕ → List Tagged
-tagsOf rows count = listed (tagAt rows) 0 count
 
 abbrev pub onward : Option (List ℕ) → ℕ → (List ℕ → ℕ) → ℕ
 onward none stop go = stop

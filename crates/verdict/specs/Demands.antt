@@ -1,4 +1,4 @@
--- Demand 3 over bytes: what the check answers against what the searches answer, of a sheet and a log that are accepted.
+-- Demand 3 over bytes: what the check answers against what the searches answer, of a sheet and a log that are accepted. What must be believed.
 -- Assumes nothing.
 use mathlib.Core.Path.{_≡_}
 use mathlib.Core.Logic.{_↔_}

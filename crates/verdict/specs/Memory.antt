@@ -1,4 +1,4 @@
--- What the check has in memory: a sheet's rows, and what is prepared for going through the antecedent's matchings.
+-- What the check has in memory: a sheet's rows, and what is prepared for going through the antecedent's matchings. Inner vocabulary.
 -- Assumes nothing.
 use mathlib.Core.Path.{_≡_}
 use mathlib.Core.Bool.{cond}
@@ -11,10 +11,8 @@ use Rattle.scenario.specs.Sheet.{Sheet}
 use Rattle.scenario.specs.Fields.{Tagged, tagged}
 use Rattle.scenario.specs.Reading.{SheetRead, Pattern}
 use Rattle.sheet.specs.Reading.{sheetOf}
-use Rattle.sheet.specs.Memory.{linesIn}
-use Rattle.pattern.specs.Decode.{rowsOf}
+use Rattle.sheet.specs.Memory.{linesIn, rowsOf, tagsOf}
 use Rattle.search.specs.Placing.{planOf, Planned}
-use Rattle.verdict.specs.Consequents.{tagsOf}
 
 -- the sheet whose rows are in memory
 abbrev pub sheetAt : (rows : List ℕ) (count k : ℕ) → Sheet

@@ -1,4 +1,4 @@
--- What the program prints: refusal number and verdict; when violated, a line of the antecedent's positions and one of the rows at fault.
+-- What the program prints: refusal number and verdict; when violated, a line of the antecedent's positions and one of the rows at fault. What must be believed.
 -- Assumes nothing.
 use mathlib.Core.Path.{_≡_}
 use mathlib.Core.Bool.{Bool, true, false, cond}

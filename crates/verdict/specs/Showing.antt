@@ -1,10 +1,11 @@
--- Show the line: the bytes of the line that the check's refusal is about, a part of the sheet or of the log.
+-- Show the line: the bytes of the line that the check's refusal is about, a part of the sheet or of the log. What must be believed.
 -- Assumes nothing.
 use mathlib.Core.Bool.{Bool, true, false, not, cond, _&&_}
 use mathlib.Core.List.{List}
 use Prim.Native.Nat.{ℕ, _+_, _-_, _*_, _≤_, min}
 use lib.ListN.{length, take, drop}
 use lib.Dec.{eqb, leb}
+use Rattle.runlog.specs.Numbers.{most-lines}
 use Rattle.sheet.specs.Reading.{answer as sheet-answer}
 use Rattle.runlog.specs.Log.{answer as log-answer}
 use Rattle.verdict.specs.declared.Part.{Part}
@@ -48,4 +49,4 @@ pub record Inside (s l : List ℕ) (x : Part) : Type 0 where
 pub record Stands (size first wide line : ℕ) : Type 0 where
   pub low : 1 ≤ line
   pub high : first + wide * line ≤ size
-  pub few : line ≤ 4000
+  pub few : line ≤ most-lines

@@ -58,7 +58,9 @@ impl<'a, S: Side> Comparison<'a, S> {
         let (sheet, log) = (&self.pair.sheet, &self.pair.log);
         self.same("read log", self.side.read_log(log), self.opened.log_read())?;
         self.same("read sheet", self.side.read_sheet(sheet), self.opened.sheet_read())?;
-        self.same("show", self.side.show(sheet, log), self.opened.shown())
+        let shown = self.opened.shown();
+        self.same("line", self.side.line(sheet, log), shown.line(sheet, log))?;
+        self.same("show", self.side.show(sheet, log), shown)
     }
 
     pub fn checks(&mut self) -> Compared {

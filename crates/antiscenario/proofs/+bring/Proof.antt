@@ -11,8 +11,8 @@ use Rattle.antiscenario.proofs.bring.Kinds as bring-kinds
 use Rattle.antiscenario.proofs.+bring.Lts-bring as bring-lts
 use Rattle.antiscenario.proofs.last_wanted.Reads as last-wanted-reads
 use Rattle.antiscenario.proofs.mark_uses.Reads as mark-uses-reads
-use Rattle.antiscenario.proofs.put_row.Reads as put-row-reads
-use Rattle.antiscenario.proofs.row_in.Reads as row-in-reads
+use Rattle.sheet.proofs.put_line.Reads as put-line-reads
+use Rattle.sheet.proofs.line_at.Reads as line-at-reads
 use Rattle.antiscenario.proofs.+bring.{statement}
 use Rattle.antiscenario.proofs.+bring.Tie.{close}
 
@@ -29,14 +29,14 @@ pub +bring-spec : {M : Type 1} → statement M
 +bring-spec = close μ-bring λ t. bring-lts.spec (
   last-wanted-reads.Asked,
   last-wanted-reads.Learnt,
-  row-in-reads.Asked,
-  row-in-reads.Learnt,
+  line-at-reads.Asked,
+  line-at-reads.Learnt,
   mark-uses-reads.Asked,
   mark-uses-reads.Learnt,
   bring-below t,
   bring.Post,
-  put-row-reads.Asked,
-  put-row-reads.Learnt,
+  put-line-reads.Asked,
+  put-line-reads.Learnt,
 )
     (bring-at t)
     bring.Post
@@ -74,5 +74,5 @@ pub +bring-spec : {M : Type 1} → statement M
     let w = r .before .before in
     let a = w .before .before .before .before .before .args in
     bring-same (a .rows .now) (a .section) (a .marks .now) (w .last-wanted .result) (a .i) (a .at) (a .out .now) (w .last-wanted .ensures .0 .1) _ _
-    (bring-adds (a .rows .now) (a .section) (a .marks .now) (w .last-wanted .result) (a .at) (a .out .now) some (r .row-in .result) (r .row-in .ensures) (b .bring .result)
-    (u .mark-uses .last .0) _ _ (w .last-wanted .ensures .1 (omega (arith, some))) (u .mark-uses .ensures) (b .bring .ensures .0) (b .bring .ensures .1) (c .before .before .put-row .ensures)))
+    (bring-adds (a .rows .now) (a .section) (a .marks .now) (w .last-wanted .result) (a .at) (a .out .now) some (r .line-at .result) (r .line-at .ensures) (b .bring .result)
+    (u .mark-uses .last .0) _ _ (w .last-wanted .ensures .1 (omega (arith, some))) (u .mark-uses .ensures) (b .bring .ensures .0) (b .bring .ensures .1) (c .before .before .put-line .ensures)))

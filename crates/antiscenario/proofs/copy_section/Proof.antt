@@ -24,13 +24,13 @@ loop-holds c = (search needs, search needs, refl, rw sub-zero refl, rw sub-zero 
 loop-again : tie.Need-loop-again Inv-loop μ-loop
 loop-again c =
     let l = c .before .before .before .before .loop in
-    let e = copy-skips (c .before .before .before .before .before .before .before .args .rows .now) (c .before .before .before .before .before .before .before .args .section) (l .i) (c .before .before .before .before .before .before .before .args .n) (c .before .before .before .loop-test .taken) (c .before .before .row-in .result) (c .before .before .row-in .ensures) 0 (l .out) (c .if1 .taken) in
+    let e = copy-skips (c .before .before .before .before .before .before .before .args .rows .now) (c .before .before .before .before .before .before .before .args .section) (l .i) (c .before .before .before .before .before .before .before .args .n) (c .before .before .before .loop-test .taken) (c .before .before .line-at .result) (c .before .before .line-at .ensures) 0 (l .out) (c .if1 .taken) in
     (search needs, search needs, l .inv .2, rw (sym e) (l .inv .3), rw (sym e) (l .inv .4))
 
 loop-again-2 : tie.Need-loop-again-2 Inv-loop μ-loop
 loop-again-2 c =
     let l = c .before .before .before .before .before .before .before .before .loop in
-    let r = copy-adds (c .before .before .before .before .before .before .before .before .before .before .before .args .rows .now) (c .before .before .before .before .before .before .before .before .before .before .before .args .section) (l .i) (c .before .before .before .before .before .before .before .before .before .before .before .args .n) (c .before .before .before .before .before .before .before .loop-test .taken) (c .before .before .before .before .before .before .row-in .result) (c .before .before .before .before .before .before .row-in .ensures) (l .at) (l .out) _ (c .before .before .before .before .if1 .left) (c .before .before .put-row .ensures) in
+    let r = copy-adds (c .before .before .before .before .before .before .before .before .before .before .before .args .rows .now) (c .before .before .before .before .before .before .before .before .before .before .before .args .section) (l .i) (c .before .before .before .before .before .before .before .before .before .before .before .args .n) (c .before .before .before .before .before .before .before .loop-test .taken) (c .before .before .before .before .before .before .line-at .result) (c .before .before .before .before .before .before .line-at .ensures) (l .at) (l .out) _ (c .before .before .before .before .if1 .left) (c .before .before .put-line .ensures) in
     (search needs, search needs, search needs, r .0 ∙ l .inv .3, r .1 ∙ l .inv .4)
 
 same-length : tie.Need-same-length Inv-loop μ-loop

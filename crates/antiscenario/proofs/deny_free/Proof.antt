@@ -13,24 +13,24 @@ returns : tie.Need-returns
 returns c =
     let a = c .before .before .before .before .before .before .before .before .before .before .args in
     done-one _ _ _ (c .before .before .before .before .before .before .before .row .result) _
-    (free-1 (a .line) (a .v) (c .before .before .before .before .before .before .before .before .before .before .pre .2) (c .before .before .before .before .before .before .before .before .before .before .pre .0) (sym (c .before .before .before .is-edge .ensures) ∙ c .before .before .if1 .taken) (sym (c .before .is-edge2 .ensures) ∙ c .if2 .taken) ∙ ap (λ (x : Line). x ∷ []) (sym (c .before .before .before .before .before .before .before .row .ensures)))
-    (c .before .before .before .before .before .before .put-row .ensures)
+    (free-1 (a .line) (a .v) (sym (c .before .before .before .is-edge .ensures) ∙ c .before .before .if1 .taken) (sym (c .before .is-edge2 .ensures) ∙ c .if2 .taken) ∙ ap (λ (x : Line). x ∷ []) (sym (c .before .before .before .before .before .before .before .row .ensures)))
+    (c .before .before .before .before .before .before .put-line .ensures)
 
 returns-2 : tie.Need-returns-2
 returns-2 c =
     let a = c .before .before .before .before .before .before .before .before .before .before .before .before .before .before .before .args in
     done-two _ _ _ (c .before .before .before .before .before .before .before .before .before .before .before .before .row .result) (c .before .before .before .inside .result) _ _
-    (free-2 (a .line) (a .v) (c .before .before .before .before .before .before .before .before .before .before .before .before .before .before .before .pre .2) (c .before .before .before .before .before .before .before .before .before .before .before .before .before .before .before .pre .0) (sym (c .before .before .before .before .before .before .before .before .is-edge .ensures) ∙ c .before .before .before .before .before .before .before .if1 .taken) (sym (c .before .before .before .before .before .before .is-edge2 .ensures) ∙ c .before .before .before .before .before .if2 .left)
+    (free-2 (a .line) (a .v) (sym (c .before .before .before .before .before .before .before .before .is-edge .ensures) ∙ c .before .before .before .before .before .before .before .if1 .taken) (sym (c .before .before .before .before .before .before .is-edge2 .ensures) ∙ c .before .before .before .before .before .if2 .left)
     ∙ ap₂ (λ (x y : Line). x ∷ y ∷ []) (sym (c .before .before .before .before .before .before .before .before .before .before .before .before .row .ensures)) (sym (c .before .before .before .inside .ensures)))
-    (c .before .before .before .before .before .before .before .before .before .before .before .put-row .ensures) (c .before .before .put-row2 .ensures)
+    (c .before .before .before .before .before .before .before .before .before .before .before .put-line .ensures) (c .before .before .put-line2 .ensures)
 
 returns-3 : tie.Need-returns-3
 returns-3 c =
     let a = c .before .before .before .before .before .before .before .before .before .before .before .before .before .before .before .args in
     done-two _ _ _ (c .before .before .before .before .before .before .before .before .before .before .before .before .row .result) (c .before .before .before .inside2 .result) _ _
-    (free-3 (a .line) (a .v) (c .before .before .before .before .before .before .before .before .before .before .before .before .before .before .before .pre .2) (c .before .before .before .before .before .before .before .before .before .before .before .before .before .before .before .pre .0) (sym (c .before .before .before .before .before .before .before .before .is-edge .ensures) ∙ c .before .before .before .before .before .before .before .if1 .left) (sym (c .before .before .before .before .before .before .is-edge3 .ensures) ∙ c .before .before .before .before .before .if3 .taken)
+    (free-3 (a .line) (a .v) (sym (c .before .before .before .before .before .before .before .before .is-edge .ensures) ∙ c .before .before .before .before .before .before .before .if1 .left) (sym (c .before .before .before .before .before .before .is-edge3 .ensures) ∙ c .before .before .before .before .before .if3 .taken)
     ∙ ap₂ (λ (x y : Line). x ∷ y ∷ []) (sym (c .before .before .before .before .before .before .before .before .before .before .before .before .row .ensures)) (sym (c .before .before .before .inside2 .ensures)))
-    (c .before .before .before .before .before .before .before .before .before .before .before .put-row .ensures) (c .before .before .put-row3 .ensures)
+    (c .before .before .before .before .before .before .before .before .before .before .before .put-line .ensures) (c .before .before .put-line3 .ensures)
 
 add-result-4 : tie.Need-add-result-4
 add-result-4 c = record { fits = omega (arith, c .before .before .before .before .before .before .before .before .before .before .before .before .before .before .before .before .before .before .before .before .before .pre) }
@@ -39,9 +39,9 @@ returns-4 : tie.Need-returns-4
 returns-4 c =
     let a = c .before .before .before .before .before .before .before .before .before .before .before .before .before .before .before .before .before .before .before .before .before .args in
     done-three _ _ _ (c .before .before .before .before .before .before .before .before .before .before .before .before .before .before .before .before .before .before .row .result) (c .before .before .before .before .before .before .before .before .before2 .result) (c .before .before .before .before3 .result) _ _ _
-    (free-4 (a .line) (a .v) (c .before .before .before .before .before .before .before .before .before .before .before .before .before .before .before .before .before .before .before .before .before .pre .2) (c .before .before .before .before .before .before .before .before .before .before .before .before .before .before .before .before .before .before .before .before .before .pre .0) (sym (c .before .before .before .before .before .before .before .before .before .before .before .before .before .before .is-edge .ensures) ∙ c .before .before .before .before .before .before .before .before .before .before .before .before .before .if1 .left) (sym (c .before .before .before .before .before .before .before .before .before .before .before .before .is-edge3 .ensures) ∙ c .before .before .before .before .before .before .before .before .before .before .before .if3 .left) (c .before .before .before .before .before .before .before .before .before .before .if4 .taken)
+    (free-4 (a .line) (a .v) (sym (c .before .before .before .before .before .before .before .before .before .before .before .before .before .before .is-edge .ensures) ∙ c .before .before .before .before .before .before .before .before .before .before .before .before .before .if1 .left) (sym (c .before .before .before .before .before .before .before .before .before .before .before .before .is-edge3 .ensures) ∙ c .before .before .before .before .before .before .before .before .before .before .before .if3 .left) (c .before .before .before .before .before .before .before .before .before .before .if4 .taken)
     ∙ ap₂ (λ (x : Line) (y : List Line). x ∷ y) (sym (c .before .before .before .before .before .before .before .before .before .before .before .before .before .before .before .before .before .before .row .ensures)) (ap₂ (λ (x y : Line). x ∷ y ∷ []) (sym (c .before .before .before .before .before .before .before .before .before2 .ensures)) (sym (c .before .before .before .before3 .ensures))))
-    (c .before .before .before .before .before .before .before .before .before .before .before .before .before .before .before .before .before .put-row .ensures) (c .before .before .before .before .before .before .before .put-row4 .ensures) (c .before .before .put-row5 .ensures)
+    (c .before .before .before .before .before .before .before .before .before .before .before .before .before .before .before .before .before .put-line .ensures) (c .before .before .before .before .before .before .before .put-line4 .ensures) (c .before .before .put-line5 .ensures)
 
 add-result-5 : tie.Need-add-result-5
 add-result-5 c = record { fits = omega (arith, c .before .before .before .before .before .before .before .before .before .before .before .before .before .before .before .before .before .before .before .before .before .pre) }
@@ -50,9 +50,9 @@ returns-5 : tie.Need-returns-5
 returns-5 c =
     let a = c .before .before .before .before .before .before .before .before .before .before .before .before .before .before .before .before .before .before .before .before .before .args in
     done-three _ _ _ (c .before .before .before .before .before .before .before .before .before .before .before .before .before .before .before .before .before .before .row .result) (c .before .before .before .before .before .before .before .before .before4 .result) (c .before .before .before .before5 .result) _ _ _
-    (free-5 (a .line) (a .v) (c .before .before .before .before .before .before .before .before .before .before .before .before .before .before .before .before .before .before .before .before .before .pre .2) (c .before .before .before .before .before .before .before .before .before .before .before .before .before .before .before .before .before .before .before .before .before .pre .0) (sym (c .before .before .before .before .before .before .before .before .before .before .before .before .before .before .is-edge .ensures) ∙ c .before .before .before .before .before .before .before .before .before .before .before .before .before .if1 .left) (sym (c .before .before .before .before .before .before .before .before .before .before .before .before .is-edge3 .ensures) ∙ c .before .before .before .before .before .before .before .before .before .before .before .if3 .left) (c .before .before .before .before .before .before .before .before .before .before .if4 .left)
+    (free-5 (a .line) (a .v) (sym (c .before .before .before .before .before .before .before .before .before .before .before .before .before .before .is-edge .ensures) ∙ c .before .before .before .before .before .before .before .before .before .before .before .before .before .if1 .left) (sym (c .before .before .before .before .before .before .before .before .before .before .before .before .is-edge3 .ensures) ∙ c .before .before .before .before .before .before .before .before .before .before .before .if3 .left) (c .before .before .before .before .before .before .before .before .before .before .if4 .left)
     ∙ ap₂ (λ (x : Line) (y : List Line). x ∷ y) (sym (c .before .before .before .before .before .before .before .before .before .before .before .before .before .before .before .before .before .before .row .ensures)) (ap₂ (λ (x y : Line). x ∷ y ∷ []) (sym (c .before .before .before .before .before .before .before .before .before4 .ensures)) (sym (c .before .before .before .before5 .ensures))))
-    (c .before .before .before .before .before .before .before .before .before .before .before .before .before .before .before .before .before .put-row .ensures) (c .before .before .before .before .before .before .before .put-row6 .ensures) (c .before .before .put-row7 .ensures)
+    (c .before .before .before .before .before .before .before .before .before .before .before .before .before .before .before .before .before .put-line .ensures) (c .before .before .before .before .before .before .before .put-line6 .ensures) (c .before .before .put-line7 .ensures)
 
 pub deny-free-spec : {M : Type 1} → statement M
 deny-free-spec =

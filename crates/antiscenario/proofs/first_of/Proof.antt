@@ -1,6 +1,7 @@
 -- `first_of` meets its contract: no row that was passed is of the section.
 -- Assumes nothing.
 use borrow.Author.Needs.{needs}
+use mathlib.Core.Path.{_∙_}
 use Prim.Native.Nat.{_≤_, _-_}
 use native.Mathlib.Omega.{arith}
 use Rattle.antiscenario.specs.Build.{NoneBefore}
@@ -23,7 +24,8 @@ returns c = c .before .before .before .loop .inv
 loop-again : tie.Need-loop-again Inv-loop μ-loop
 loop-again c =
     let at = c .before .before .before in
-    (search needs, none-more (at .before .args .rows .now) (at .before .args .section) (at .loop .i) (at .loop .inv .1) (c .if1 .left))
+    let a = at .before .before .args in
+    (search needs, none-more (a .rows .now) (a .section) (at .loop .i) (at .loop .inv .1) (λ e. c .if1 .left (c .before .section-of .ensures ∙ e)))
 
 returns-2 : tie.Need-returns-2 Inv-loop μ-loop
 returns-2 c =
@@ -37,9 +39,7 @@ first-of-spec =
     Inv-loop
     μ-loop
     loop-holds
-    (λ c. search needs)
-    (λ c. search needs)
-    (λ c. search needs)
+    (λ c κs. search needs)
     returns
     (λ c. search needs)
     (λ c. search needs)

@@ -59,7 +59,6 @@ judge-spec =
     (λ c κs. search needs)
     returns
     (λ c. search needs)
-    (λ c. search needs)
     gather-requires
     (λ c. search needs)
     (λ c κs. search needs)

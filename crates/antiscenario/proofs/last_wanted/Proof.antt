@@ -23,13 +23,13 @@ returns : tie.Need-returns Inv-loop μ-loop
 returns c =
     let l = c .before .before .before .before .loop in
     let a = c .before .before .before .before .before .before .before .args in
-    (l .inv, λ h. ap (wanted (a .marks .now) (a .section)) (sym (c .before .before .row-in .ensures)) ∙ sym (c .before .is-wanted .ensures) ∙ c .if1 .taken)
+    (l .inv, λ h. ap (wanted (a .marks .now) (a .section)) (sym (c .before .before .line-at .ensures)) ∙ sym (c .before .is-wanted .ensures) ∙ c .if1 .taken)
 
 loop-again : tie.Need-loop-again Inv-loop μ-loop
 loop-again c =
     let l = c .before .before .before .before .loop in
     let a = c .before .before .before .before .before .before .before .args in
-    let w = ap (wanted (a .marks .now) (a .section)) (sym (c .before .before .row-in .ensures)) ∙ sym (c .before .is-wanted .ensures) ∙ c .if1 .left in
+    let w = ap (wanted (a .marks .now) (a .section)) (sym (c .before .before .line-at .ensures)) ∙ sym (c .before .is-wanted .ensures) ∙ c .if1 .left in
     (search needs, sym (brought-skip (a .rows .now) (a .section) (a .marks .now) (l .left) (λ e. omega (arith, c .before .before .before .loop-test .taken)) w) ∙ l .inv .1)
 
 returns-2 : tie.Need-returns-2 Inv-loop μ-loop

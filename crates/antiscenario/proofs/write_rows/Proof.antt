@@ -26,7 +26,7 @@ loop-holds c = (search needs, refl, rw sub-zero refl)
 write-row-requires : tie.Need-write-row-requires Inv-loop μ-loop
 write-row-requires c κs =
     let s = c .before .before .before .before .before .before in
-    (search needs, search needs, subst Fits (sym (c .row-in .ensures)) (at-line Fits (s .args .rows .now) (s .args .n) 0 (s .pre .3) (c .before .before .before .loop .i) (search needs) (search needs)))
+    (search needs, search needs, subst Fits (sym (c .line-at .ensures)) (at-line Fits (s .args .rows .now) (s .args .n) 0 (s .pre .3) (c .before .before .before .loop .i) (search needs) (search needs)))
 
 loop-again : tie.Need-loop-again Inv-loop μ-loop
 loop-again c =
@@ -35,7 +35,7 @@ loop-again c =
       search needs,
       c .before .before .write-row .kept .0 ∙ l .inv .1,
       rows-on (a .rows .now) (l .i) (a .n) (l .buf) _ (c .before .before .before .before .before .loop-test .taken) (search needs)
-          (c .before .before .write-row .ensures ∙ ap (λ (x : Line). inked (7 + 35 * l .i) (rowText x) (l .buf)) (c .before .before .before .row-in .ensures)) ∙ l .inv .2,
+          (c .before .before .write-row .ensures ∙ ap (λ (x : Line). inked (7 + 35 * l .i) (rowText x) (l .buf)) (c .before .before .before .line-at .ensures)) ∙ l .inv .2,
     )
 
 same-length : tie.Need-same-length Inv-loop μ-loop

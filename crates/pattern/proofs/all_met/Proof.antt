@@ -1,7 +1,8 @@
 -- `all_met` meets its contract: the rows from number j on are all met exactly when all are.
 -- Assumes nothing.
 use Rattle.pattern.proofs.Matching.{met-on, met-not, met-end}
-use Rattle.pattern.specs.Decode.{by, rowAt, listed, rowsOf}
+use Rattle.sheet.specs.Memory.{rowAt, listed, rowsOf}
+use Rattle.pattern.specs.Placing.{by}
 use Rattle.runlog.specs.Held.{runAt}
 use Rattle.scenario.specs.Sheet.{all}
 use Rattle.scenario.specs.Rows.{meets}

@@ -1,7 +1,7 @@
 -- `is_matching` meets its contract: positions off the lines match nothing, and the others do exactly when the array that they are put into meets all rows.
 -- Assumes nothing.
 use Rattle.pattern.proofs.Matching.{points-room, placement-off, placement-met}
-use Rattle.pattern.specs.Decode.{rowsOf}
+use Rattle.sheet.specs.Memory.{rowsOf}
 use borrow.Author.Tests.{not-true, not-false}
 use borrow.Author.Needs.{needs}
 use Rattle.pattern.proofs.is_matching.Statement.{statement}

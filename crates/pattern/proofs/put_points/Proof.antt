@@ -24,8 +24,8 @@ loop-again c =
     let l = c .before .before .before .before .before .before .before .loop in (
       search needs,
       search needs,
-      puts-on (l .env) (a .pts .now) (a .positions .now) (a .np) (l .j) (c .before .before .before .before .before .before .before .before .before .before .before .pre .0) (c .before .before .before .before .before .before .before .before .before .before .before .pre .1) (c .before .before .put-at .last .0) (c .before .before .before .before .at .result) (c .before .before .before .at2 .result) (c .before .before .before .before .before .before .loop-test .taken)
-          (c .before .before .put-at .ensures) (c .before .before .before .before .at .ensures) (c .before .before .before .at2 .ensures) ∙ l .inv .2,
+      puts-on (l .env) (a .pts .now) (a .positions .now) (a .np) (l .j) (c .before .before .before .before .before .before .before .before .before .before .before .pre .0) (c .before .before .before .before .before .before .before .before .before .before .before .pre .1) (c .before .before .store .last .0) (c .before .before .before .before .at .result) (c .before .before .before .at2 .result) (c .before .before .before .before .before .before .loop-test .taken)
+          (c .before .before .store .ensures) (c .before .before .before .before .at .ensures) (c .before .before .before .at2 .ensures) ∙ l .inv .2,
     )
 
 returns : tie.Need-returns Inv-loop μ-loop
@@ -42,6 +42,7 @@ put-points-spec =
     μ-loop
     loop-holds
     (λ c κs. search needs)
+    (λ c. search needs)
     (λ c κs. search needs)
     (λ c κs. search needs)
     (λ c. search needs)

@@ -4,7 +4,7 @@ use native.Mathlib.Omega.{arith}
 use mathlib.Core.List.{_++_, map}
 use Prim.Native.Nat.{ℕ, _+_, _-_, _≤_}
 use lib.ListN.{length, set, take, drop, length-set}
-use Rattle.pattern.specs.Decode.{by}
+use Rattle.pattern.specs.Placing.{by}
 use Rattle.search.proofs.Preparing.{copied}
 use borrow.Author.Needs.{needs}
 use Rattle.search.proofs.copy_out.Statement.{statement}

@@ -7,7 +7,8 @@ use lib.ListN.{take, drop}
 use borrow.Author.Tests.{not-true, not-false}
 use Rattle.scenario.specs.Search.{smallest-matching}
 use Rattle.runlog.specs.Held.{runAt}
-use Rattle.pattern.specs.Decode.{by, rowsOf}
+use Rattle.sheet.specs.Memory.{rowsOf}
+use Rattle.pattern.specs.Placing.{by}
 use Rattle.search.specs.Matching.{isFound, after}
 use Rattle.search.proofs.Finding.{blank, find-none, find-is, roomy, read-off, filled-none}
 use borrow.Author.Needs.{needs}

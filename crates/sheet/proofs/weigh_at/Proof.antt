@@ -1,36 +1,37 @@
--- `weigh_at` meets its contract: the row that the definition looks at stands at 6 * i.
+-- `weigh_at` meets its contract: the row is of the section or it is not.
 -- Assumes nothing.
-use Rattle.sheet.specs.Memory.{weighLine, lineIn}
-use borrow.Author.Tests.{eq-eqb, ne-eqb}
+use mathlib.Core.Path.{_∙_, ap}
+use Prim.Native.Nat.{ℕ}
 use native.Mathlib.Omega.{arith}
+use Rattle.sheet.specs.Memory.{weighLine, lineIn}
+use Rattle.sheet.proofs.Count.{weighs-own, weighs-none}
 use borrow.Author.Needs.{needs}
 use Rattle.sheet.proofs.weigh_at.Statement.{statement}
 use Rattle.sheet.proofs.weigh_at.Tie as tie
 
 returns : tie.Need-returns
-unfolding weighLine lineIn
-returns c = (simp (ne-eqb _ _ (c .if1 .taken)), omega arith)
+returns c =
+    let s = c .before in
+    let a = s .before .before .args in
+    (weighs-none (a .rows .now) (a .i) (s .section-of .result) (s .section-of .ensures) (a .section) (c .if1 .taken), omega arith)
 
 returns-2 : tie.Need-returns-2
-unfolding weighLine lineIn
-returns-2 c = (simp (eq-eqb _ _ (c .before .before .before .before .if1 .left)) (c .weigh .ensures .0), c .weigh .ensures .1)
+returns-2 c =
+    let s = c .before .before .before .before .before in
+    let a = s .before .before .args in (
+      weighs-own (a .rows .now) (a .i) (s .section-of .result) (s .section-of .ensures) (c .weigh .result) _ _ _ (c .weigh .ensures .0) (c .before .before .before .kind-of .ensures) (c .before .before .p-of .ensures) (c .before .q-of .ensures)
+          ∙ ap (λ (t : ℕ). weighLine t (lineIn (a .rows .now) (a .i))) (c .before .before .before .before .if1 .left),
+      c .weigh .ensures .1,
+    )
 
 pub weigh-at-spec : {M : Type 1} → statement M
 weigh-at-spec =
     tie.close
     (tie.spec
-    (λ c. search needs)
-    (λ c. search needs)
-    (λ c. search needs)
+    (λ c κs. search needs)
     returns
-    (λ c. search needs)
-    (λ c. search needs)
-    (λ c. search needs)
-    (λ c. search needs)
-    (λ c. search needs)
-    (λ c. search needs)
-    (λ c. search needs)
-    (λ c. search needs)
-    (λ c. search needs)
+    (λ c κs. search needs)
+    (λ c κs. search needs)
+    (λ c κs. search needs)
     (λ c κs. search needs)
     returns-2)

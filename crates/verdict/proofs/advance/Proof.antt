@@ -57,6 +57,9 @@ point-at-requires c κs = search needs
 lower-requires : tie.Need-lower-requires
 lower-requires c κs = search needs
 
+cast-store : tie.Need-cast-store
+cast-store c = search needs
+
 store-requires : tie.Need-store-requires
 store-requires c κs = search needs
 
@@ -65,16 +68,19 @@ same-length-4 c = search needs
 
 returns-4 : tie.Need-returns-4
 returns-4 c =
-    let t = c .before .before .before .before .before .before .before .before .before .before .before in
+    let t = c .before .before .before .before .before .before .before .before .before .before .before .before in
     let s = t .before .before .before .before .before in
     let a = s .args in
-    advanced-earlier (a .ticks .now) (a .events .now) (a .env .now) (a .n) (a .row .kind) (a .row .p) (a .row .q) (a .row .a) (a .row .b) (t .at .result) (s .pre) (t .at .ensures) (c .before .before .before .before .point-at .result) (c .before .before .before .lower .result) (c .before .before .store .last .0) (c .before .before .before .before .point-at .ensures) (c .before .before .store .ensures) (c .before .before .before .before .before .before .before .if4 .taken) (c .before .before .before .lower .ensures)
+    advanced-earlier (a .ticks .now) (a .events .now) (a .env .now) (a .n) (a .row .kind) (a .row .p) (a .row .q) (a .row .a) (a .row .b) (t .at .result) (s .pre) (t .at .ensures) (c .before .before .before .before .before .before .point-at .result) (c .before .before .before .before .before .lower .result) (c .before .before .store .last .0) (c .before .before .before .before .before .before .point-at .ensures) (c .before .before .store .ensures) (c .before .before .before .before .before .before .before .before .if4 .taken) (c .before .before .before .before .before .lower .ensures)
 
 point-at-requires-2 : tie.Need-point-at-requires-2
 point-at-requires-2 c κs = search needs
 
 higher-requires : tie.Need-higher-requires
 higher-requires c κs = search needs
+
+cast-store-2 : tie.Need-cast-store-2
+cast-store-2 c = search needs
 
 store-requires-2 : tie.Need-store-requires-2
 store-requires-2 c κs = search needs
@@ -84,10 +90,10 @@ same-length-5 c = search needs
 
 returns-5 : tie.Need-returns-5
 returns-5 c =
-    let t = c .before .before .before .before .before .before .before .before .before .before .before .before in
+    let t = c .before .before .before .before .before .before .before .before .before .before .before .before .before in
     let s = t .before .before .before .before .before in
     let a = s .args in
-    advanced-later (a .ticks .now) (a .events .now) (a .env .now) (a .n) (a .row .kind) (a .row .p) (a .row .q) (a .row .a) (a .row .b) (t .at .result) (s .pre) (t .at .ensures) (c .before .before .before .before .point-at2 .result) (c .before .before .before .higher .result) (c .before .before .store2 .last .0) (c .before .before .before .before .point-at2 .ensures) (c .before .before .store2 .ensures) (c .before .before .before .before .before .before .before .if5 .taken) (c .before .before .before .higher .ensures)
+    advanced-later (a .ticks .now) (a .events .now) (a .env .now) (a .n) (a .row .kind) (a .row .p) (a .row .q) (a .row .a) (a .row .b) (t .at .result) (s .pre) (t .at .ensures) (c .before .before .before .before .before .before .point-at2 .result) (c .before .before .before .before .before .higher .result) (c .before .before .store2 .last .0) (c .before .before .before .before .before .before .point-at2 .ensures) (c .before .before .store2 .ensures) (c .before .before .before .before .before .before .before .before .if5 .taken) (c .before .before .before .before .before .higher .ensures)
 
 meets-requires : tie.Need-meets-requires
 meets-requires c κs = search needs
@@ -119,11 +125,13 @@ advance-spec =
     returns-3
     point-at-requires
     lower-requires
+    cast-store
     store-requires
     same-length-4
     returns-4
     point-at-requires-2
     higher-requires
+    cast-store-2
     store-requires-2
     same-length-5
     returns-5

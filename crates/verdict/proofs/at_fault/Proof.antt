@@ -11,8 +11,9 @@ use lib.ListN.{length, replicate, length-set}
 use borrow.Author.Tests.{not-true, not-false}
 use Rattle.runlog.specs.Held.{runAt}
 use Rattle.runlog.proofs.Logs.{seen-laws}
-use Rattle.pattern.specs.Decode.{decode, listed}
-use Rattle.verdict.specs.Consequents.{tagAt, tagsOf, faultIn, faultsIn, Kept}
+use Rattle.scenario.specs.Fields.{decode}
+use Rattle.sheet.specs.Memory.{listed, tagAt, tagsOf}
+use Rattle.verdict.specs.Consequents.{faultIn, faultsIn, Kept}
 use Rattle.verdict.proofs.Steps.{fault-end, skip, stuck, passed, faults-end, faults-none, faults-on}
 use Rattle.verdict.proofs.Consequents.{kept-all, kept-on, fault-same, row-keeps}
 use Rattle.verdict.proofs.at_fault.Statement.{statement}
@@ -89,7 +90,7 @@ rows-again c =
     let at = l .before .before in
     let a = at .before .before .before .before .args in
     let r = l .rows in
-    (search needs, r .inv .1, sym (skip (runAt (a .ticks .now) (a .events .now) (a .n)) (a .rows .now) (a .count) (at .consequents .c + 1) (r .env) (r .j) (c .before .before .before .if1 .left) (c .before .at .result) (c .before .at .ensures) (c .if2 .taken)) ∙ r .inv .2)
+    (search needs, r .inv .1, sym (skip (runAt (a .ticks .now) (a .events .now) (a .n)) (a .rows .now) (a .count) (at .consequents .c + 1) (r .env) (r .j) (c .before .before .before .if1 .left) (c .before .section-of .result) (c .before .section-of .ensures) (c .if2 .taken)) ∙ r .inv .2)
 
 advance-requires : tie.Need-advance-requires Inv-rows μ-rows Inv-consequents μ-consequents
 advance-requires c κs = c .before .before .before .before .before .before .before .before .before .before .before .before .pre .0
@@ -103,7 +104,7 @@ rows-again-2 c =
     let r = l .rows in
     let w = runAt (a .ticks .now) (a .events .now) (a .n) in
     let h = c .before .before .before .before .before .before .before .before .before .if1 .left in
-    let t = c .before .before .before .before .before .before .before .at in
+    let t = c .before .before .before .before .before .before .before .section-of in
     let v = c .before .before .before .advance in
     let row = c .before .before .before .before .row-at in
     let k = decode (row .result .kind) (row .result .p) (row .result .q) (row .result .a) (row .result .b) in (

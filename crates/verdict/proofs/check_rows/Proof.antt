@@ -10,17 +10,17 @@ use Rattle.verdict.proofs.check_rows.Tie as tie
 
 -- the rows at the front are the antecedent's
 all-antecedent : (c : tie.After-leading-rows) →
-    let a = c .before .before .args in
+    let a = c .before .args in
     c .leading-rows .result ≡ length (sheetAt (a .rows .now) (a .count) (a .k) .antecedent)
 all-antecedent c =
-    let s = c .before .before in
+    let s = c .before in
     let a = s .args in
     c .leading-rows .ensures ∙ antecedent-count (a .rows .now) (a .count) (a .k) (s .pre .1)
 
 prepare-requires : tie.Need-prepare-requires
 prepare-requires c κs =
     let t = c .before .before .before .before in
-    let s = t .before .before in
+    let s = t .before in
     let a = s .args in
     let e = all-antecedent t in
     let q = rows-pattern (a .rows .now) (a .count) (a .k) (s .pre .1) (t .leading-rows .result) e in
@@ -31,7 +31,7 @@ first-violation-requires : tie.Need-first-violation-requires
 first-violation-requires c κs =
     let p = c .before .before .before .before .before .before .before .before .prepare in
     let t = c .before .before .before .before .before .before .before .before .before .before .before .before .before in
-    let s = t .before .before in
+    let s = t .before in
     let a = s .args in (
       s .pre .0,
       s .pre .1,

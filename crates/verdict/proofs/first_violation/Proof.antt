@@ -12,7 +12,8 @@ use Rattle.scenario.specs.Sheet.{no-larger}
 use Rattle.scenario.specs.Search.{least, check, is-violating}
 use Rattle.scenario.specs.Reading.{All}
 use Rattle.runlog.specs.Held.{runAt, part}
-use Rattle.pattern.specs.Decode.{by, rowsOf}
+use Rattle.sheet.specs.Memory.{rowsOf}
+use Rattle.pattern.specs.Placing.{by}
 use Rattle.search.specs.Placing.{Fixture, Begun}
 use Rattle.verdict.specs.Memory.{sheetAt}
 use Rattle.search.proofs.Steps.{never}

@@ -4,8 +4,7 @@ use mathlib.Core.Path.{_≡_}
 use Prim.Native.Nat.{_+_, _≤_, _-_}
 use native.Mathlib.Nat.{sub-zero}
 use native.Mathlib.Omega.{arith}
-use Rattle.pattern.specs.Decode.{listed}
-use Rattle.verdict.specs.Consequents.{tagAt, tagsOf}
+use Rattle.sheet.specs.Memory.{listed, tagAt, tagsOf}
 use Rattle.verdict.specs.Memory.{leading}
 use Rattle.verdict.proofs.Matchings.{lead-end, lead-other, lead-on}
 use Rattle.verdict.proofs.leading_rows.Statement.{statement}
@@ -21,34 +20,22 @@ loop-holds : tie.Need-loop-holds Inv-loop μ-loop
 unfolding tagsOf
 loop-holds c = (search needs, rw sub-zero (omega arith))
 
-mul-at : tie.Need-mul-at Inv-loop μ-loop
-mul-at c = search needs
-
-at-requires : tie.Need-at-requires Inv-loop μ-loop
-at-requires c κs = search needs
-
 returns : tie.Need-returns Inv-loop μ-loop
 returns c =
-    let l = c .before .before .before in
-    let a = l .before .before .args in
-    omega (arith, lead-other (a .rows .now) (a .count) (l .loop .j) (search needs) (c .before .at .result) (c .before .at .ensures) (c .if1 .taken), l .loop .inv .1)
-
-add-j : tie.Need-add-j Inv-loop μ-loop
-add-j c = search needs
-
-loop-less : tie.Need-loop-less Inv-loop μ-loop
-loop-less c = search needs
+    let l = c .before .before .before .before in
+    let a = l .before .args in
+    omega (arith, lead-other (a .rows .now) (a .count) (l .loop .j) (search needs) (c .before .section-of .result) (c .before .section-of .ensures) (c .if1 .taken), l .loop .inv .1)
 
 loop-again : tie.Need-loop-again Inv-loop μ-loop
 loop-again c =
-    let l = c .before .before .before in
-    let a = l .before .before .args in
-    (search needs, omega (arith, lead-on (a .rows .now) (a .count) (l .loop .j) (search needs) (c .before .at .result) (c .before .at .ensures) (c .if1 .left), l .loop .inv .1))
+    let l = c .before .before .before .before in
+    let a = l .before .args in
+    (search needs, omega (arith, lead-on (a .rows .now) (a .count) (l .loop .j) (search needs) (c .before .section-of .result) (c .before .section-of .ensures) (c .if1 .left), l .loop .inv .1))
 
 returns-2 : tie.Need-returns-2 Inv-loop μ-loop
 returns-2 c =
     let l = c .before in
-    let a = l .before .before .args in
+    let a = l .before .args in
     omega (arith, lead-end (a .rows .now) (a .count) (l .loop .j) (c .loop-test .left), l .loop .inv .1)
 
 pub leading-rows-spec : {M : Type 1} → statement M
@@ -58,10 +45,10 @@ leading-rows-spec =
     Inv-loop
     μ-loop
     loop-holds
-    mul-at
-    at-requires
+    (λ c. search needs)
+    (λ c κs. search needs)
     returns
-    add-j
-    loop-less
+    (λ c. search needs)
+    (λ c. search needs)
     loop-again
     returns-2)

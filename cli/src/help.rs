@@ -1,0 +1,74 @@
+//! What the program says of itself.
+use crate::arguments::Command;
+
+pub const HELP: &str = "\
+satskhubo: does a run log keep the rule of a sheet? The answers come from the proved library.
+
+    satskhubo check SHEET LOG..                  a verdict on each log
+    satskhubo antiscenarios SHEET [NUMBER]       the patterns of every way to break the rule, or one of them
+    satskhubo search SHEET LOG.. [--number M]    where they are found, or where one of them is
+    satskhubo explain SHEET                      the sheet, row by row, in words
+    satskhubo COMMAND --help
+    satskhubo --version
+
+SHEET and LOG are files; - is standard input. A LOG may be a folder: all files below it.
+Options stand behind the command:
+    --plain          numbers in columns
+    --json           JSON, one object a line
+    --events FILE    names of events, a line each: 3 scan (else the file `events` beside the sheet, where there is one)
+    --number M       of the antiscenario
+    --               ends the options, for names that begin with a dash
+Exit status: 0 all hold, or nothing is found; 1 some are violated, or found; 2 something is refused, not read or failed.
+";
+
+const CHECK: &str = "\
+satskhubo check SHEET LOG.. [--plain | --json] [--events FILE]
+
+One log: the verdict with the lines of the antecedent's points, and for each consequent the row that cannot be met,
+what it asks and what was found. Several logs, or a folder: a line each and a summary.
+--plain: refusal (3 columns), verdict (3; 1 violated); when violated a line of positions (5 each), and one of rows (4 each).
+--json: an object a log: file, sheet, verdict (holds, violated, refused, unreadable), refusal, positions, lines, ticks, events,
+rows (consequent, row, kind, asked, found); of, line and words of a refusal; error.
+Exit status: 0 all hold; 1 some are violated; 2 something is refused, not read or failed.
+";
+
+const ANTISCENARIOS: &str = "\
+satskhubo antiscenarios SHEET [NUMBER] [--plain | --json] [--events FILE]
+
+The antiscenarios of the sheet, or the one of that number: the antecedent, and for each consequent one way in which it fails.
+--plain: the texts as document 01 has them, one after the other. --json: an object each: number, of, rows, text.
+Exit status: 0 done; 2 refused, not read or failed.
+";
+
+const SEARCH: &str = "\
+satskhubo search SHEET LOG.. [--number M] [--plain | --json] [--events FILE]
+
+Where the antiscenarios are found in each log, or the one of that number: a line for each of its points, with the row of
+the antiscenario that introduces the point.
+--plain: a line a number: refusal (3 columns), number (11), found (3), positions (5 each). --json: an object a number: file,
+sheet, number, found, points, positions, lines, ticks, events.
+Exit status: 0 nothing is found; 1 something is found; 2 something is refused, not read or failed.
+";
+
+const EXPLAIN: &str = "\
+satskhubo explain SHEET [--json] [--events FILE]
+
+The sheet in words: how many consequents, rows and antiscenarios it has, and each row by its section.
+Exit status: 0 done; 2 refused, not read or failed.
+";
+
+pub fn help(command: Option<Command>) -> &'static str {
+    match command {
+        None => HELP,
+        Some(Command::Check) => CHECK,
+        Some(Command::Antiscenarios) => ANTISCENARIOS,
+        Some(Command::Search) => SEARCH,
+        Some(Command::Explain) => EXPLAIN,
+    }
+}
+
+/// The version, and the commit and the kit that build.rs saw.
+pub fn version() -> String {
+    let number = concat!(env!("CARGO_PKG_VERSION_MAJOR"), ".", env!("CARGO_PKG_VERSION_MINOR"));
+    format!("satskhubo {number} (commit {}, {})\n", env!("SATSKHUBO_COMMIT"), env!("SATSKHUBO_KIT"))
+}

@@ -1,0 +1,46 @@
+//! Points, lines and rows in words.
+use crate::events::Events;
+use crate::sheet::{Kind, Row, CLOSE, START};
+
+pub fn point(point: u32) -> String {
+    match point {
+        START => "the start".to_string(),
+        CLOSE => "the close".to_string(),
+        _ => format!("point {point}"),
+    }
+}
+
+/// A line of the log, which in the file stands behind the first line.
+pub fn line(position: u32) -> String {
+    format!("line {position} of the log, line {} of the file", file_line(position))
+}
+
+pub fn file_line(position: u32) -> u64 {
+    u64::from(position) + 1
+}
+
+/// What a row asks.
+pub fn asks(row: &Row, events: &Events) -> String {
+    let (p, q, a, b) = (point(row.p), point(row.q), row.a, row.b);
+    match row.kind {
+        Kind::Point | Kind::Event => format!("{p} has {}", events.set(a)),
+        Kind::Next => format!("{p} is the next line after {q} with {}", events.set(a)),
+        Kind::Last => format!("{p} is the last line before {q} with {}", events.set(a)),
+        Kind::Earlier => format!("{p} is the earlier of {q} and {}", point(a)),
+        Kind::Later => format!("{p} is the later of {q} and {}", point(a)),
+        Kind::Before => format!("{p} stands before {q}"),
+        Kind::Apart => format!("{p} and {q} are different lines"),
+        Kind::Same => format!("{p} and {q} are the same line"),
+        Kind::Free => format!("{} between {p} and {q}", events.free_of(a)),
+        Kind::Within => format!("the ticks of {p} and {q} differ by {a} to {b}"),
+        Kind::Outside => format!("the ticks of {p} and {q} do not differ by {a} to {b}"),
+    }
+}
+
+/// A count with its noun, in the plural but for one.
+pub fn count(count: impl Into<u64>, noun: &str) -> String {
+    match count.into() {
+        1 => format!("1 {noun}"),
+        count => format!("{count} {noun}s"),
+    }
+}

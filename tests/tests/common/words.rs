@@ -1,0 +1,107 @@
+//! What the program must say of a row, a point and a line, by document 01's tables.
+use satskhubo_tests::reference::log::Log;
+use satskhubo_tests::reference::operations::every_matching;
+use satskhubo_tests::reference::rows::{points, Placement};
+use satskhubo_tests::reference::sheet::{kind::*, Row, Sheet, CLOSE, START};
+
+pub const KINDS: [&str; 13] =
+    ["", "POINT", "NEXT", "LAST", "EARLIER", "LATER", "BEFORE", "APART", "SAME", "FREE", "WITHIN", "OUTSIDE", "EVENT"];
+
+fn listed(events: &[u32]) -> String {
+    events.iter().map(u32::to_string).collect::<Vec<_>>().join(", ")
+}
+
+/// The events of a set and the others.
+fn parted(set: u32) -> (Vec<u32>, Vec<u32>) {
+    (0..32).partition(|event| set & (1 << event) != 0)
+}
+
+pub fn some_of(set: u32) -> String {
+    let (some, others) = parted(set);
+    match (some.len(), others.len()) {
+        (0, _) => "no event".into(),
+        (1, _) => format!("event {}", listed(&some)),
+        (32, _) => "any event".into(),
+        (17.., _) => format!("any event but {}", listed(&others)),
+        _ => format!("one of the events {}", listed(&some)),
+    }
+}
+
+fn none_of(set: u32) -> String {
+    let (some, others) = parted(set);
+    match some.len() {
+        1 => format!("event {} does not occur", listed(&some)),
+        32 => "no event occurs".into(),
+        17.. => format!("no event but {} occurs", listed(&others)),
+        _ => format!("none of the events {} occurs", listed(&some)),
+    }
+}
+
+pub fn point(point: u32) -> String {
+    match point {
+        START => "the start".into(),
+        CLOSE => "the close".into(),
+        _ => format!("point {point}"),
+    }
+}
+
+pub fn line(position: u32) -> String {
+    format!("line {position} of the log, line {} of the file", position + 1)
+}
+
+/// What a row asks.
+pub fn asked(row: &Row) -> String {
+    let (p, q, a, b) = (point(row.p), point(row.q), row.a, row.b);
+    match row.kind {
+        POINT | EVENT => format!("{p} has {}", some_of(a)),
+        NEXT => format!("{p} is the next line after {q} with {}", some_of(a)),
+        LAST => format!("{p} is the last line before {q} with {}", some_of(a)),
+        EARLIER => format!("{p} is the earlier of {q} and {}", point(a)),
+        LATER => format!("{p} is the later of {q} and {}", point(a)),
+        BEFORE => format!("{p} stands before {q}"),
+        APART => format!("{p} and {q} are different lines"),
+        SAME => format!("{p} and {q} are the same line"),
+        FREE => format!("{} between {p} and {q}", none_of(a)),
+        WITHIN => format!("the ticks of {p} and {q} differ by {a} to {b}"),
+        OUTSIDE => format!("the ticks of {p} and {q} do not differ by {a} to {b}"),
+        other => panic!("kind {other}"),
+    }
+}
+
+/// Where the points of a consequent stand before its row at fault: the one matching of antecedent and these rows over the placement.
+fn before_fault(sheet: &Sheet, log: &Log, placement: &[u32], fault: usize) -> Placement {
+    let section = sheet.rows[fault - 1].section;
+    let own = |row: &&Row| row.section == 0 || row.section == section;
+    let rows: Vec<Row> = sheet.rows[..fault - 1].iter().filter(own).copied().collect();
+    let over: Vec<Vec<u32>> = every_matching(&rows, log).into_iter().filter(|matching| matching.starts_with(placement)).collect();
+    assert_eq!(over.len(), 1, "the rows before a row at fault are met in one way");
+    Placement::of(log, &points(&rows), &over[0])
+}
+
+/// What stands there instead of what the row at fault asks.
+pub fn found(sheet: &Sheet, log: &Log, placement: &[u32], fault: usize) -> String {
+    let at = before_fault(sheet, log, placement, fault);
+    let row = &sheet.rows[fault - 1];
+    let (p, q) = (at.position(row.p), at.position(row.q));
+    let place = |number: u32| {
+        let position = at.position(number);
+        match number {
+            START | CLOSE => format!("{} is at tick {}", point(number), log.tick(position)),
+            _ => format!("{} is at {}, tick {}", point(number), line(position), log.tick(position)),
+        }
+    };
+    let event = |position: u32| log.lines[position as usize - 1].event;
+    match row.kind {
+        NEXT => format!("after {} there is no such line", point(row.q)),
+        LAST => format!("before {} there is no such line", point(row.q)),
+        EVENT => format!("{} has event {}", line(p), event(p)),
+        FREE => {
+            let between = (p.min(q) + 1..p.max(q)).find(|position| log.event_in(*position, row.a)).expect("a line between");
+            format!("{}, tick {}, has event {}", line(between), log.tick(between), event(between))
+        }
+        WITHIN | OUTSIDE => {
+            format!("{}; {}; they differ by {}", place(row.p), place(row.q), log.tick(p).abs_diff(log.tick(q)))
+        }
+        _ => format!("{}; {}", place(row.p), place(row.q)),
+    }
+}

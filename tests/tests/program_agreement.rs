@@ -1,0 +1,230 @@
+//! The program against the other checker, on random sheets and many logs at once: exit status, document 01's columns, and JSON with its words.
+mod common;
+use common::program::{file, opened, plain_check, run};
+use common::words::{asked, found, KINDS};
+use common::{scratch, tell};
+use satskhubo_tests::generate::sheets::{self, sheet_s};
+use satskhubo_tests::generate::{damage, logs, targeted};
+use satskhubo_tests::json::{self, Json};
+use satskhubo_tests::random::Random;
+use satskhubo_tests::reference::antiscenario::antiscenario;
+use satskhubo_tests::reference::blunder::Blunder;
+use satskhubo_tests::reference::log::{self, Log};
+use satskhubo_tests::reference::operations::{Opened, Verdict, MOST_POINTS};
+use satskhubo_tests::reference::rows::points;
+use satskhubo_tests::reference::sheet::{self, kind::*};
+use std::path::Path;
+
+/// Logs by name, in the order of their names: random ones, some damaged, and those made for each refusal.
+fn many_logs(folder: &Path, seed: u64, count: usize) -> Vec<(String, Vec<u8>)> {
+    let mut random = Random::new(seed);
+    let is_short = |text: &Vec<u8>| log::read(text, Blunder::None).map_or(true, |log| log.n() <= 6);
+    let mut texts: Vec<Vec<u8>> = targeted::logs().into_iter().map(|case| case.text).filter(is_short).collect();
+    texts.extend((0..count).map(|_| {
+        let mut text = logs::random(&mut random, 5).text();
+        if random.one_in(6) {
+            damage::damage(&mut random, &mut text, &damage::LOG);
+        }
+        text
+    }));
+    let named = texts.into_iter().enumerate();
+    named.map(|(index, text)| (file(folder, &format!("log-{index:05}"), &text), text)).collect()
+}
+
+fn random_sheet(random: &mut Random, round: usize) -> Vec<u8> {
+    let shape = [&sheets::SMALL, &sheets::MIDDLE, &sheets::SMALL, &sheets::LARGE][round % 4];
+    let mut text = sheets::random(random, shape);
+    // Mostly sheets that are accepted and have points.
+    while text.starts_with(b"  0") || (!random.one_in(10) && sheet::read(&text, Blunder::None).is_err()) {
+        text = sheets::random(random, shape);
+    }
+    text
+}
+
+fn worst(statuses: impl Iterator<Item = i32>) -> i32 {
+    statuses.max().unwrap_or(0)
+}
+
+/// Positions in an object: with their lines in the file, ticks and events.
+fn has_positions(object: &Json, log: &Log, positions: &[u32]) {
+    let lines: Vec<u32> = positions.iter().map(|position| position + 1).collect();
+    let ticks: Vec<u32> = positions.iter().map(|position| log.tick(*position)).collect();
+    let events: Vec<u32> = positions.iter().map(|position| log.lines[*position as usize - 1].event).collect();
+    let said = ["positions", "lines", "ticks", "events"].map(|name| object.get(name).numbers());
+    assert_eq!(said, [positions.to_vec(), lines, ticks, events], "{object:?}");
+}
+
+/// The object of one log, whose sheet is accepted. Gives the kinds of the rows at fault whose words were compared.
+fn says_the_verdict(object: &Json, opened: &Opened, words_too: bool) -> Vec<u32> {
+    let mut kinds = Vec::new();
+    let verdict = object.get("verdict").text();
+    match opened.check() {
+        Err(refusal) => {
+            assert_eq!((verdict, object.get("refusal").number()), ("refused", refusal.number().into()), "{object:?}");
+            assert_eq!(object.get("of").text(), "log", "{object:?}");
+        }
+        Ok(Verdict::Holds) => assert_eq!((verdict, object.get("refusal")), ("holds", &Json::Null), "{object:?}"),
+        Ok(Verdict::Violated { placement, rows }) => {
+            let (sheet, log) = (opened.sheet.as_ref().unwrap(), opened.log.as_ref().unwrap());
+            assert_eq!((verdict, object.get("refusal")), ("violated", &Json::Null), "{object:?}");
+            has_positions(object, log, &placement);
+            let said = object.get("rows").list();
+            assert_eq!(said.len(), rows.len(), "{object:?}");
+            for ((index, number), said) in rows.iter().enumerate().zip(said) {
+                let row = &sheet.rows[*number as usize - 1];
+                let numbers = (said.get("consequent").number(), said.get("row").number());
+                assert_eq!(numbers, (index as u64 + 1, u64::from(*number)), "{object:?}");
+                assert_eq!((said.get("kind").text(), said.get("asked").text()), (KINDS[row.kind as usize], asked(row).as_str()));
+                if words_too {
+                    assert_eq!(said.get("found").text(), found(sheet, log, &placement, *number as usize), "{object:?}");
+                    kinds.push(row.kind);
+                }
+            }
+        }
+    }
+    kinds
+}
+
+/// Every log against one sheet, in one run for the columns and one for JSON.
+fn checks_alike(sheet_name: &str, sheet: &[u8], folder: &str, logs: &[(String, Vec<u8>)], words_too: bool) -> Vec<u32> {
+    let all: Vec<Opened> = logs.iter().map(|(_, log)| opened(sheet, log)).collect();
+    let due: Vec<(i32, String)> = all.iter().map(plain_check).collect();
+    let status = worst(due.iter().map(|(status, _)| *status));
+    let plain = run(&["check", "--plain", sheet_name, folder]).answer();
+    let in_json = run(&["check", "--json", sheet_name, folder]).answer();
+    assert_eq!((plain.0, in_json.0), (status, status));
+    let objects = json::lines(&in_json.1);
+    if let Err(fault) = &all[0].sheet {
+        // A refused sheet is said once.
+        assert_eq!(plain.1, format!("{:3}{:3}\n", fault.refusal.number(), 0));
+        assert_eq!(objects.len(), 1, "{}", in_json.1);
+        assert_eq!((objects[0].get("of").text(), objects[0].get("refusal").number()), ("sheet", fault.refusal.number().into()));
+        return Vec::new();
+    }
+    assert!(plain.1 == due.iter().map(|(_, text)| text.as_str()).collect::<String>(), "{}", plain.1);
+    assert_eq!(objects.len(), logs.len());
+    let each = logs.iter().zip(&all).zip(&objects);
+    each.flat_map(|(((name, _), opened), object)| {
+        assert_eq!((object.get("file").text(), object.get("sheet").text()), (name.as_str(), sheet_name));
+        says_the_verdict(object, opened, words_too)
+    })
+    .collect()
+}
+
+#[test]
+fn random_sheets_on_many_logs() {
+    let folder = scratch("agreement");
+    let logs_folder = scratch("agreement/logs");
+    let logs = many_logs(&logs_folder, 71, 400);
+    let mut random = Random::new(72);
+    let mut kinds = Vec::new();
+    const SHEETS: usize = 60;
+    for round in 0..SHEETS {
+        let text = random_sheet(&mut random, round);
+        let name = file(&folder, "a-sheet", &text);
+        kinds.extend(checks_alike(&name, &text, &logs_folder.display().to_string(), &logs, round % 4 != 3));
+    }
+    kinds.sort();
+    kinds.dedup();
+    assert_eq!(kinds, [NEXT, LAST, BEFORE, APART, SAME, FREE, WITHIN, OUTSIDE, EVENT], "rows at fault of every kind");
+    tell("program: checks", (2 * SHEETS * logs.len()) as u64);
+}
+
+/// Thousands in one run, with long logs among them.
+#[test]
+fn thousands_of_logs_at_once() {
+    let folder = scratch("thousands");
+    let mut logs = many_logs(&folder, 73, 3000);
+    for n in [500, 1000, 4000] {
+        let text = logs::mixed(n).text();
+        logs.push((file(&folder, &format!("log-of-{n:04}"), &text), text));
+    }
+    let sheet = sheet_s();
+    let name = file(&scratch("thousands-sheet"), "sheet", &sheet);
+    checks_alike(&name, &sheet, &folder.display().to_string(), &logs, true);
+    tell("program: thousands", 2 * logs.len() as u64);
+}
+
+/// The object of one number searched in one log.
+fn says_the_search(object: &Json, opened: &Opened, number: u64) -> bool {
+    let (sheet, log) = (opened.sheet.as_ref().unwrap(), opened.log.as_ref().unwrap());
+    assert_eq!(object.get("number").number(), number);
+    let matching = opened.search(number, MOST_POINTS).unwrap();
+    assert_eq!(object.get("found"), &Json::Bool(matching.is_some()), "{object:?}");
+    if let Some(positions) = &matching {
+        assert_eq!(object.get("points").numbers(), points(&antiscenario(sheet, number)), "{object:?}");
+        has_positions(object, log, positions);
+    }
+    matching.is_some()
+}
+
+/// All numbers of a sheet, written and searched in each log.
+fn searches_alike(sheet_name: &str, sheet: &[u8], logs: &[(String, Vec<u8>)]) -> u64 {
+    let all: Vec<Opened> = logs.iter().map(|(_, log)| opened(sheet, log)).collect();
+    let count = all[0].read_sheet().unwrap();
+    let mut words = vec!["search", "--json", sheet_name];
+    words.extend(logs.iter().map(|(name, _)| name.as_str()));
+    let in_json = run(&words).answer();
+    words[1] = "--plain";
+    let plain = run(&words).answer();
+    let (objects, mut next, mut columns, mut status) = (json::lines(&in_json.1), 0, String::new(), 0);
+    for ((name, _), opened) in logs.iter().zip(&all) {
+        if let Err(refusal) = opened.read_log() {
+            let object = &objects[next];
+            assert_eq!((object.get("file").text(), object.get("refusal").number()), (name.as_str(), refusal.number().into()));
+            (next, status) = (next + 1, 2);
+            columns += &format!("{:3}\n", refusal.number());
+            continue;
+        }
+        for number in 1..=count {
+            assert_eq!(objects[next].get("file").text(), name);
+            let hit = says_the_search(&objects[next], opened, number);
+            (next, status) = (next + 1, status.max(hit.into()));
+            let positions = opened.search(number, MOST_POINTS).unwrap().unwrap_or_default();
+            columns += &format!("{:3}{number:11}{:3}", 0, i32::from(hit));
+            columns += &(positions.iter().map(|position| format!("{position:5}")).collect::<String>() + "\n");
+        }
+    }
+    assert_eq!((objects.len(), in_json.0, plain.0), (next, status, status));
+    assert_eq!(plain.1, columns);
+    next as u64
+}
+
+fn writes_alike(sheet_name: &str, sheet: &[u8]) -> u64 {
+    let opened = opened(sheet, b"");
+    let count = opened.read_sheet().unwrap();
+    let texts: Vec<Vec<u8>> = (1..=count).map(|number| opened.write(number, 3437).unwrap()).collect();
+    let (status, plain) = run(&["antiscenarios", "--plain", sheet_name]).answer();
+    assert_eq!((status, plain.as_bytes()), (0, &texts.concat()[..]));
+    let (status, in_json) = run(&["antiscenarios", "--json", sheet_name]).answer();
+    let objects = json::lines(&in_json);
+    assert_eq!((status, objects.len() as u64), (0, count));
+    for ((number, text), object) in (1..).zip(&texts).zip(&objects) {
+        assert_eq!((object.get("number").number(), object.get("of").number()), (number, count));
+        assert_eq!(object.get("text").text().as_bytes(), text);
+        let rows = antiscenario(opened.sheet.as_ref().unwrap(), number);
+        assert_eq!(object.get("rows").list().len(), rows.len());
+        for (row, said) in rows.iter().zip(object.get("rows").list()) {
+            let numbers = ["section", "p", "q", "a", "b"].map(|name| said.get(name).number() as u32);
+            assert_eq!(numbers, [row.section, row.p, row.q, row.a, row.b]);
+            assert_eq!((said.get("kind").text(), said.get("words").text()), (KINDS[row.kind as usize], asked(row).as_str()));
+        }
+    }
+    count
+}
+
+#[test]
+fn searches_and_antiscenarios_of_random_sheets() {
+    let folder = scratch("searches");
+    let logs = many_logs(&scratch("searches/logs"), 74, 30);
+    let mut random = Random::new(75);
+    let mut comparisons = 0;
+    for round in 0..40 {
+        let text = random_sheet(&mut random, 4 * round + round % 2);
+        if sheet::read(&text, Blunder::None).is_ok_and(|sheet| sheet.count <= 200) {
+            let name = file(&folder, "sheet", &text);
+            comparisons += searches_alike(&name, &text, &logs) + writes_alike(&name, &text);
+        }
+    }
+    tell("program: searches and antiscenarios", comparisons);
+}
