@@ -259,7 +259,7 @@ module _ (s l : List ℕ) where
 
   -- no row or line has more than 35 bytes, and no first line more than 28
   part-few : (x : Part) → x ≡ partOf s l → x .to ≤ x .from + 35
-  unfolding partOf sheetPart logPart
+  unfolding partOf linePart
   part-few x e = subst (λ (y : Part). y .to ≤ y .from + 35) (sym e) (few (eqb (reading.answer s .refusal) 0) (eqb (log.answer l .refusal) 0))
     where
       pick : (b : Bool) (y z : Part) → y .to ≤ y .from + 35 → z .to ≤ z .from + 35 → cond b y z .to ≤ cond b y z .from + 35
