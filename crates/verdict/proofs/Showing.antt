@@ -5,6 +5,7 @@ use mathlib.Core.Path.{_≡_, refl, sym, subst}
 use mathlib.Core.Bool.{Bool, true, false, not, cond, _&&_}
 use mathlib.Core.List.{List}
 use Prim.Native.Nat.{ℕ, zero, suc, _+_, _-_, _*_, _≤_, _<_, min}
+use native.Mathlib.Nat.{mul-suc}
 use native.Mathlib.Omega.{arith}
 use lib.ListN.{length, getD, take, drop, length-take}
 use lib.Dec.{eqb, leb, ltb}
@@ -29,7 +30,7 @@ use Rattle.runlog.specs.declared.LineRead.the-variants.{Refused, Line}
 use Rattle.runlog.specs.Log as log
 use Rattle.runlog.proofs.Whole.{first-seen as first-line-seen}
 use Rattle.verdict.specs.declared.Part.{Part}
-use Rattle.verdict.specs.Showing.{part, sheetPart, logPart, partOf, shownLine, Inside, Stands}
+use Rattle.verdict.specs.Showing.{part, linePart, sheetPart, logPart, partOf, shownLine, Inside, Stands}
 
 -- The sheet's rows
 
@@ -166,31 +167,23 @@ line-stands l lo hi = go (eqb (log.headOf l .refusal) 0) refl (from-line (log.he
 
 -- A part, by how the refusal lies to the rows' numbers
 
-module _ (s : List ℕ) (refusal row : ℕ) where
-  pub sheet-low : refusal < 4 → part refusal false 0 (min 7 (length s)) ≡ sheetPart s refusal row
-  unfolding sheetPart
-  sheet-low h = simp (lt-leb 4 refusal h)
+module _ (log : Bool) (first wide low high : ℕ) (t : List ℕ) (refusal line : ℕ) where
+  pub part-low : refusal < low → part refusal log 0 (min first (length t)) ≡ linePart log first wide low high t refusal line
+  unfolding linePart
+  part-low h = simp (lt-leb low refusal h)
 
-  pub sheet-high : 4 ≤ refusal → 10 < refusal → part refusal false 0 (min 7 (length s)) ≡ sheetPart s refusal row
-  unfolding sheetPart
-  sheet-high a h = simp (le-leb 4 refusal a, lt-leb refusal 10 h)
+  pub part-high : low ≤ refusal → high < refusal → part refusal log 0 (min first (length t)) ≡ linePart log first wide low high t refusal line
+  unfolding linePart
+  part-high a h = simp (le-leb low refusal a, lt-leb refusal high h)
 
-  pub sheet-row : 4 ≤ refusal → refusal ≤ 10 → part refusal false (7 + 35 * (row - 1)) (7 + 35 * (row - 1) + 35) ≡ sheetPart s refusal row
-  unfolding sheetPart
-  sheet-row a b = simp (le-leb 4 refusal a, le-leb refusal 10 b)
+  pub part-line : low ≤ refusal → refusal ≤ high → part refusal log (first + wide * (line - 1)) (first + wide * (line - 1) + wide) ≡ linePart log first wide low high t refusal line
+  unfolding linePart
+  part-line a b = simp (le-leb low refusal a, le-leb refusal high b)
 
-module _ (l : List ℕ) (refusal line : ℕ) where
-  pub log-low : refusal < 24 → part refusal true 0 (min 28 (length l)) ≡ logPart l refusal line
-  unfolding logPart
-  log-low h = simp (lt-leb 24 refusal h)
-
-  pub log-high : 24 ≤ refusal → 26 < refusal → part refusal true 0 (min 28 (length l)) ≡ logPart l refusal line
-  unfolding logPart
-  log-high a h = simp (le-leb 24 refusal a, lt-leb refusal 26 h)
-
-  pub log-line : 24 ≤ refusal → refusal ≤ 26 → part refusal true (28 + 15 * (line - 1)) (28 + 15 * (line - 1) + 15) ≡ logPart l refusal line
-  unfolding logPart
-  log-line a b = simp (le-leb 24 refusal a, le-leb refusal 26 b)
+-- a line that stands in the text ends there
+pub line-ends : (size first wide line : ℕ) → Stands size first wide line → first + wide * (line - 1) + wide ≤ size
+line-ends size first wide zero S = let low = S .low in absurd (omega arith)
+line-ends size first wide (suc k) S = let e : suc k - 1 ≡ k = omega arith in rw e (omega (arith, S .high, mul-suc wide k))
 
 -- The first line's part
 module _ (log : Bool) (refusal most n : ℕ) where
@@ -225,23 +218,14 @@ module _ (s l : List ℕ) (a : SheetAnswer) (ea : a ≡ reading.answer s) where
 -- The part lies inside its text.
 
 module _ (s l : List ℕ) where
-  sheet-inside : (refusal row : ℕ) → (4 ≤ refusal → refusal ≤ 10 → Stands (length s) 7 35 row) → Inside s l (sheetPart s refusal row)
-  unfolding sheetPart
-  sheet-inside refusal row h = go (leb 4 refusal) (leb refusal 10) refl refl
+  line-inside : (log : Bool) (first wide low high refusal line : ℕ) → (low ≤ refusal → refusal ≤ high → Stands (length (cond log l s)) first wide line)
+      → Inside s l (linePart log first wide low high (cond log l s) refusal line)
+  unfolding linePart
+  line-inside log first wide low high refusal line h = go (leb low refusal) (leb refusal high) refl refl
     where
-      go : (b c : Bool) → leb 4 refusal ≡ b → leb refusal 10 ≡ c
-          → Inside s l (cond (b && c) (part refusal false (7 + 35 * (row - 1)) (7 + 35 * (row - 1) + 35)) (part refusal false 0 (min 7 (length s))))
-      go true true x y = let w = h (leb-true 4 refusal x) (leb-true refusal 10 y) in record { order = omega arith; end = omega (arith, w .low, w .high) }
-      go true false x y = record { order = omega arith; end = omega arith }
-      go false c x y = record { order = omega arith; end = omega arith }
-
-  log-inside : (refusal line : ℕ) → (24 ≤ refusal → refusal ≤ 26 → Stands (length l) 28 15 line) → Inside s l (logPart l refusal line)
-  unfolding logPart
-  log-inside refusal line h = go (leb 24 refusal) (leb refusal 26) refl refl
-    where
-      go : (b c : Bool) → leb 24 refusal ≡ b → leb refusal 26 ≡ c
-          → Inside s l (cond (b && c) (part refusal true (28 + 15 * (line - 1)) (28 + 15 * (line - 1) + 15)) (part refusal true 0 (min 28 (length l))))
-      go true true x y = let w = h (leb-true 24 refusal x) (leb-true refusal 26 y) in record { order = omega arith; end = omega (arith, w .low, w .high) }
+      go : (b c : Bool) → leb low refusal ≡ b → leb refusal high ≡ c
+          → Inside s l (cond (b && c) (part refusal log (first + wide * (line - 1)) (first + wide * (line - 1) + wide)) (part refusal log 0 (min first (length (cond log l s)))))
+      go true true x y = record { order = omega arith; end = line-ends (length (cond log l s)) first wide line (h (leb-true low refusal x) (leb-true refusal high y)) }
       go true false x y = record { order = omega arith; end = omega arith }
       go false c x y = record { order = omega arith; end = omega arith }
 
@@ -250,8 +234,8 @@ module _ (s l : List ℕ) where
   part-inside = go (eqb (reading.answer s .refusal) 0) (eqb (log.answer l .refusal) 0)
     where
       go : (b c : Bool) → Inside s l (cond (not b) (sheetPart s (reading.answer s .refusal) (reading.answer s .row)) (cond (not c) (logPart l (log.answer l .refusal) (log.answer l .line)) (part 0 false 0 0)))
-      go false c = sheet-inside (reading.answer s .refusal) (reading.answer s .row) (row-stands s)
-      go true false = log-inside (log.answer l .refusal) (log.answer l .line) (line-stands l)
+      go false c = line-inside false 7 35 4 10 (reading.answer s .refusal) (reading.answer s .row) (row-stands s)
+      go true false = line-inside true 28 15 24 26 (log.answer l .refusal) (log.answer l .line) (line-stands l)
       go true true = record { order = omega arith; end = omega arith }
 
   -- so does any that is the definition's
@@ -274,7 +258,7 @@ module _ (s l : List ℕ) where
 
   -- no row or line has more than 35 bytes, and no first line more than 28
   part-few : (x : Part) → x ≡ partOf s l → x .to ≤ x .from + 35
-  unfolding partOf sheetPart logPart
+  unfolding partOf linePart
   part-few x e = subst (λ (y : Part). y .to ≤ y .from + 35) (sym e) (few (eqb (reading.answer s .refusal) 0) (eqb (log.answer l .refusal) 0))
     where
       pick : (b : Bool) (y z : Part) → y .to ≤ y .from + 35 → z .to ≤ z .from + 35 → cond b y z .to ≤ cond b y z .from + 35

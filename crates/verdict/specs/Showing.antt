@@ -13,17 +13,20 @@ use Rattle.verdict.specs.declared.Part.{Part}
 abbrev pub part : (refusal : ℕ) (log : Bool) (from to : ℕ) → Part
 part refusal log from to = record { refusal = refusal; log = log; from = from; to = to }
 
+-- Of a text t whose first line has `first` bytes and whose other lines have `wide`: for the refusals from low to high the line's bytes; for the others the first
+-- line, or all if shorter.
+unfoldable pub linePart : (log : Bool) (first wide low high : ℕ) → (t : List ℕ) (refusal line : ℕ) → Part
+linePart log first wide low high t refusal line =
+    cond (leb low refusal && leb refusal high) (part refusal log (first + wide * (line - 1)) (first + wide * (line - 1) + wide))
+    (part refusal log 0 (min first (length t)))
+
 -- for 4 to 10 the row's 35 bytes; for 1 to 3 and 11 the sheet's first 7, or all if shorter
-unfoldable pub sheetPart : (s : List ℕ) (refusal row : ℕ) → Part
-sheetPart s refusal row =
-    cond (leb 4 refusal && leb refusal 10) (part refusal false (7 + 35 * (row - 1)) (7 + 35 * (row - 1) + 35))
-    (part refusal false 0 (min 7 (length s)))
+abbrev pub sheetPart : (s : List ℕ) (refusal row : ℕ) → Part
+sheetPart s refusal row = linePart false 7 35 4 10 s refusal row
 
 -- for 24 to 26 the line's 15 bytes; for 21 to 23 and 27 the log's first 28, or all if shorter
-unfoldable pub logPart : (l : List ℕ) (refusal line : ℕ) → Part
-logPart l refusal line =
-    cond (leb 24 refusal && leb refusal 26) (part refusal true (28 + 15 * (line - 1)) (28 + 15 * (line - 1) + 15))
-    (part refusal true 0 (min 28 (length l)))
+abbrev pub logPart : (l : List ℕ) (refusal line : ℕ) → Part
+logPart l refusal line = linePart true 28 15 24 26 l refusal line
 
 -- the sheet's refusals, then the log's; nothing refused, the empty part at the sheet's front
 unfoldable pub partOf : (s l : List ℕ) → Part
