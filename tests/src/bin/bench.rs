@@ -1,5 +1,5 @@
-//! The proved code through the C interface beside plain Rust, in one run, as ratios: bench [check | once ours|plain check|NUMBER | logs FOLDER].
-use satskhubo_tests::generate::logs::{mixed, uniform};
+//! The proved code through the C interface beside plain Rust, in one run, as ratios: bench [check | worst | alone | once ours|plain check|NUMBER | logs FOLDER].
+use satskhubo_tests::generate::logs::{log_of, mixed, uniform};
 use satskhubo_tests::generate::sheets::sheet_s;
 use satskhubo_tests::host::Host;
 use satskhubo_tests::outcome::Side;
@@ -135,6 +135,43 @@ fn standing_measure() -> Vec<u8> {
     sheet_text(1, &[[0, POINT, 1, 0, 8, 0], [0, POINT, 2, 0, 8, 0], [1, NEXT, 11, 1, 8, 0]])
 }
 
+/// Two points with set 8, and a consequent about what stands around or between them.
+fn two_points(consequent: [u32; 6]) -> Vec<u8> {
+    sheet_text(1, &[[0, POINT, 1, 0, 8, 0], [0, POINT, 2, 0, 8, 0], consequent])
+}
+
+/// Scans, but for one event 2 in the first or in the last line.
+fn scans_but_one(n: u32, line: u32) -> Vec<u8> {
+    let lines: Vec<(u32, u32)> = (1..=n).map(|at| (10 * at, if at == line { 2 } else { 3 })).collect();
+    log_of(&lines).text()
+}
+
+/// Checks that look at every line again for each of n^2 placements: NEXT, LAST and FREE, whose line or event is far or nowhere.
+fn worst_cases() {
+    check("FREE 1 2 {1}, no 1", &two_points([1, FREE, 1, 2, 2, 0]), scans_text);
+    check("NEXT 11 after 1 {2}, 2 in the last", &two_points([1, NEXT, 11, 1, 4, 0]), |n| scans_but_one(n, n));
+    check("LAST 11 before 1 {2}, 2 in the first", &two_points([1, LAST, 11, 1, 4, 0]), |n| scans_but_one(n, 1));
+}
+
+/// The seconds of the proved code alone on 4,000 lines, a line each, for tests/beside: name, tab, seconds.
+fn alone() {
+    let (mixed, scans) = (mixed_text(4000), scans_text(4000));
+    let places = RefCell::new([0; 58]);
+    let tell = |name: &str, work: &mut dyn FnMut()| {
+        let runs = (REPEAT / seconds_of(1, work).max(1e-9)).ceil().clamp(1.0, 1e6) as u32;
+        println!("{name}\t{:e}", median((0..REPEATS).map(|_| seconds_of(runs, work)).collect()));
+    };
+    tell("read a log", &mut || keep(Host.read_log(black_box(&mixed))));
+    tell("read 19 rows", &mut || keep(Host.read_sheet(black_box(&many_antiscenarios()))));
+    for number in 1..=4 {
+        let search = &mut || keep(Host.search_into(&sheet_s(), black_box(&mixed), number, &mut *places.borrow_mut()));
+        tell(&format!("search S, number {number}"), search);
+    }
+    tell("timed case: none", &mut || keep(Host.search_into(&timed_case(), black_box(&scans), 1, &mut *places.borrow_mut())));
+    tell("check S", &mut || keep(Host.check_number(&sheet_s(), black_box(&mixed))));
+    tell("standing measure", &mut || keep(Host.check_number(&standing_measure(), black_box(&scans))));
+}
+
 fn read_logs() {
     let mut table = Table::new();
     for n in SIZES {
@@ -232,7 +269,13 @@ fn main() {
         return once(side, what);
     }
     let word = words.first().map_or("", String::as_str);
+    if word == "alone" {
+        return alone();
+    }
     Table::heading();
+    if word == "worst" {
+        return worst_cases();
+    }
     if word == "check" {
         check("standing measure", &standing_measure(), scans_text);
         return;
