@@ -240,7 +240,7 @@ order-of-refusals =
 abbrev table : List Case
 table = first-line ++ (row-form ++ (point-p ++ (point-q ++ (fields-used ++ (room-and-count ++ order-of-refusals)))))
 
-pub the-table-size : length table ≡ 108
+pub the-table-size : length table ≡ 110
 the-table-size = refl
 
 pub the-table : all-told table ≡ true

@@ -20,7 +20,7 @@ linePart log first wide low high t refusal line =
     cond (leb low refusal && leb refusal high) (part refusal log (first + wide * (line - 1)) (first + wide * (line - 1) + wide))
     (part refusal log 0 (min first (length t)))
 
--- for 4 to 10 the row's 35 bytes; for 1 to 3 and 11 the sheet's first 7, or all if shorter
+-- for 4 to 10 the row's 35 bytes; for 1 to 3 (and 11, which is never given) the sheet's first 7, or all if shorter
 abbrev pub sheetPart : (s : List ℕ) (refusal row : ℕ) → Part
 sheetPart s refusal row = linePart false 7 35 4 10 s refusal row
 
