@@ -5,6 +5,7 @@ use mathlib.Core.List.{List, [], _∷_}
 use Prim.Native.Nat.{ℕ, zero, suc, _+_, _*_}
 use lib.ListN.{length, getD, take, drop}
 use lib.Dec.{ltb, eqb}
+use Rattle.sheet.specs.Numbers.{most-consequents, most-rows, most-antiscenarios, first-line-malformed, over-limits, wrong-length, row-malformed, too-many-antiscenarios}
 use Rattle.columns.specs.Number.{fieldAt}
 use Rattle.columns.specs.declared.Field.{Field}
 use Rattle.columns.specs.declared.Field.the-variants.{Value, Bad}
@@ -29,18 +30,18 @@ headed refusal k rows = record { refusal = refusal; k = k; rows = rows }
 -- goes on with a field's value; a bad field is 1
 abbrev pub onHead : Field → (ℕ → Head) → Head
 onHead (Value v) f = f v
-onHead Bad f = headed 1 0 0
+onHead Bad f = headed first-line-malformed 0 0
 
 -- "1 first line short or malformed; 2 k over 6 or row count over 176; 3 length is not 7 + 35 × rows"
 unfoldable pub headOf : List ℕ → Head
 headOf s =
-    cond (ltb (length s) 7) (headed 1 0 0)
+    cond (ltb (length s) 7) (headed first-line-malformed 0 0)
     (onHead (fieldAt s 3) (λ k.
     onHead (fieldAt (drop 3 s) 3) (λ rows.
-    cond (not (eqb (getD s 6 0) 10)) (headed 1 0 0)
-    (cond (ltb 6 k) (headed 2 0 0)
-    (cond (ltb 176 rows) (headed 2 0 0)
-    (cond (not (eqb (length s) (7 + 35 * rows))) (headed 3 0 0)
+    cond (not (eqb (getD s 6 0) 10)) (headed first-line-malformed 0 0)
+    (cond (ltb most-consequents k) (headed over-limits 0 0)
+    (cond (ltb most-rows rows) (headed over-limits 0 0)
+    (cond (not (eqb (length s) (7 + 35 * rows))) (headed wrong-length 0 0)
     (headed 0 k rows)))))))
 
 -- Rows
@@ -73,7 +74,7 @@ rowBytes s i = take 35 (drop (7 + 35 * i) s)
 unfoldable pub rowsFrom : (k : ℕ) (s : List ℕ) (i left : ℕ) → Stand → Taken
 rowsFrom k s i zero at = stop 0 0
 rowsFrom k s i (suc left) at =
-    onLine (lineOf (rowBytes s i)) (stop 4 (suc i)) (λ l.
+    onLine (lineOf (rowBytes s i)) (stop row-malformed (suc i)) (λ l.
     cond (eqb (refusal k at l) 0) (more l (rowsFrom k s (suc i) left (after at l))) (stop (refusal k at l) (suc i)))
 
 -- The sheet of the rows
@@ -112,7 +113,7 @@ accepted k rows n = record { refusal = 0; row = 0; k = k; rows = rows; count = n
 unfoldable pub closing : (k : ℕ) → Taken → Answer
 closing k t =
     cond (eqb (t .number) 0)
-    (cond (ltb 4096 (count (sheetOf k (t .lines)))) (refused 11 0) (accepted k (length (t .lines)) (count (sheetOf k (t .lines)))))
+    (cond (ltb most-antiscenarios (count (sheetOf k (t .lines)))) (refused too-many-antiscenarios 0) (accepted k (length (t .lines)) (count (sheetOf k (t .lines)))))
     (refused (t .number) (t .row))
 
 unfoldable pub answer : List ℕ → Answer
