@@ -5,6 +5,7 @@ ghost use mathlib.Core.List.{List, [], _∷_, _++_};
 ghost use Prim.Native.Nat.{ℕ, _+_, _*_, _-_, _≤_, _<_};
 ghost use lib.ListN.{length, getD, set, take, drop};
 ghost use lib.Dec.{eqb};
+ghost use Rattle.sheet.specs.Numbers.{most-consequents, most-rows, sheet-room};
 ghost use Rattle.runlog.specs.Numbers.{ticks-room, events-room};
 ghost use Rattle.scenario.specs.Rows.{event-count};
 ghost use Rattle.sheet.specs.Row.{six};
@@ -134,7 +135,7 @@ fn bring(
     out: &mut [u32],
     at: usize,
 ) -> usize
-    requires { ⌜ (6 * i ≤ length (now rows)) × (i ≤ 176) × (at ≤ 1500) × NoneBefore (now rows) section from ⌝ }
+    requires { ⌜ (6 * i ≤ length (now rows)) × (i ≤ most-rows) × (at ≤ 1500) × NoneBefore (now rows) section from ⌝ }
     ensures ends { λ r. ⌜ r ≡ at + length (brought (now (rows .entry)) section (now (marks .entry)) i) ⌝ }
     ensures memory { λ r. ⌜ now (out .exit) ≡ lay at (brought (now (rows .entry)) section (now (marks .entry)) i) (now (out .entry)) ⌝ }
 {
@@ -254,7 +255,7 @@ fn own_rows(line: sheet::Line, v: u64, far: u32, out: &mut [u32], at: usize) -> 
 
 // Stores denial v of row number i, from 0: the rows that it brings and its own; gives where they end. Its section begins at row `from` or later.
 fn deny_row(rows: &[u32], from: usize, i: usize, v: u64, out: &mut [u32], at: usize) -> usize
-    requires { ⌜ (6 * i + 6 ≤ length (now rows)) × (i < 176) × (at ≤ 1500) × (lineIn (now rows) i .section ≤ 100) × (v < weighLine (lineIn (now rows) i .section) (lineIn (now rows) i)) × NoneBefore (now rows) (lineIn (now rows) i .section) from ⌝ }
+    requires { ⌜ (6 * i + 6 ≤ length (now rows)) × (i < most-rows) × (at ≤ 1500) × (lineIn (now rows) i .section ≤ 100) × (v < weighLine (lineIn (now rows) i .section) (lineIn (now rows) i)) × NoneBefore (now rows) (lineIn (now rows) i .section) from ⌝ }
     ensures ends { λ r. ⌜ r ≡ at + length (denied (now (rows .entry)) i v) ⌝ }
     ensures memory { λ r. ⌜ now (out .exit) ≡ lay at (denied (now (rows .entry)) i v) (now (out .entry)) ⌝ }
 {
@@ -267,7 +268,7 @@ fn deny_row(rows: &[u32], from: usize, i: usize, v: u64, out: &mut [u32], at: us
 
 // Stores denial j of a section's; gives where its rows end.
 fn deny_section(rows: &[u32], n: usize, section: u32, j: u64, out: &mut [u32], at: usize) -> usize
-    requires { ⌜ (1056 ≤ length (now rows)) × (n ≤ 176) × (section ≤ 100) × (at ≤ 1500) ⌝ }
+    requires { ⌜ (sheet-room ≤ length (now rows)) × (n ≤ most-rows) × (section ≤ 100) × (at ≤ 1500) ⌝ }
     ensures ends { λ r. ⌜ r ≡ at + length (denialFrom (now (rows .entry)) section 0 n j) ⌝ }
     ensures memory { λ r. ⌜ now (out .exit) ≡ lay at (denialFrom (now (rows .entry)) section 0 n j) (now (out .entry)) ⌝ }
 {
@@ -287,7 +288,7 @@ fn deny_section(rows: &[u32], n: usize, section: u32, j: u64, out: &mut [u32], a
 
 // Stores the rows of a section; gives how many.
 fn copy_section(rows: &[u32], n: usize, section: u32, out: &mut [u32]) -> usize
-    requires { ⌜ (1056 ≤ length (now rows)) × (n ≤ 176) ⌝ }
+    requires { ⌜ (sheet-room ≤ length (now rows)) × (n ≤ most-rows) ⌝ }
     ensures ends { λ r. ⌜ r ≡ length (ofSection section (linesIn (now (rows .entry)) 0 n)) ⌝ }
     ensures memory { λ r. ⌜ now (out .exit) ≡ lay 0 (ofSection section (linesIn (now (rows .entry)) 0 n)) (now (out .entry)) ⌝ }
 {
@@ -307,7 +308,7 @@ fn copy_section(rows: &[u32], n: usize, section: u32, out: &mut [u32]) -> usize
 
 // Stores the rows of antiscenario j + 1 of a sheet in memory, whose count is given; gives how many.
 fn build(rows: &[u32], n: usize, k: u32, count: u64, j: u64, out: &mut [u32]) -> usize
-    requires { ⌜ (1056 ≤ length (now rows)) × (n ≤ 176) × (k ≤ 6) × (1 ≤ count) × (count ≡ product 1 k (linesIn (now rows) 0 n)) ⌝ }
+    requires { ⌜ (sheet-room ≤ length (now rows)) × (n ≤ most-rows) × (k ≤ most-consequents) × (1 ≤ count) × (count ≡ product 1 k (linesIn (now rows) 0 n)) ⌝ }
     ensures ends { λ r. ⌜ r ≡ length (built (now (rows .entry)) n k j) ⌝ }
     ensures memory { λ r. ⌜ now (out .exit) ≡ lay 0 (built (now (rows .entry)) n k j) (now (out .entry)) ⌝ }
 {

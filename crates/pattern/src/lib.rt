@@ -7,7 +7,7 @@ ghost use lib.Dec.{ltb, leb};
 ghost use Rattle.scenario.specs.Rows.{clear as clearOf, meets as meetsOf, points};
 ghost use Rattle.scenario.specs.Log.{hasAt};
 ghost use Rattle.scenario.specs.Sheet.{all, matching};
-ghost use Rattle.scenario.specs.Reading.{Pattern};
+ghost use Rattle.scenario.specs.Reading.{Pattern, most-points};
 ghost use Rattle.runlog.specs.Held.{Events, Held, part, runAt, bare};
 ghost use Rattle.pattern.specs.Meeting.{placedBy, orderedBy};
 ghost use Rattle.scenario.specs.Fields.{decode};
@@ -169,7 +169,7 @@ fn introduces(kind: u32) -> bool
 
 // The number of the points that the rows introduce; they are written to the front of pts in order of introduction.
 pub fn gather(rows: &[u32; ROWS_ROOM], count: u32, pts: &mut [u32]) -> u32
-    requires { ⌜ (count ≤ 200) × (length (points (rowsOf (now rows) count)) ≤ length (now pts)) × (length (points (rowsOf (now rows) count)) ≤ 58) ⌝ }
+    requires { ⌜ (count ≤ 200) × (length (points (rowsOf (now rows) count)) ≤ length (now pts)) × (length (points (rowsOf (now rows) count)) ≤ most-points) ⌝ }
     ensures number { λ r. ⌜ r ≡ length (points (rowsOf (now (rows .entry)) count)) ⌝ }
     ensures points { λ r. ⌜ take r (now (pts .exit)) ≡ points (rowsOf (now (rows .entry)) count) ⌝ }
 {

@@ -83,9 +83,16 @@ pub record SheetRead (sheet : Sheet) : Type 0 where
   pub consequents : SectionsRead (length (points (sheet .antecedent))) 1 (sheet .consequents)
   pub count : length (sheet .consequents) ≤ 6
 
+-- "At most 58 points", with numbers below 100
+abbrev pub most-points : ℕ
+most-points = 58
+
+abbrev pub point-numbers : ℕ
+point-numbers = 100
+
 -- rows that are searched: each uses points that the rows introduce, each point is introduced once, and there are "at most 58 points"
 pub record Pattern (rows : List Row) : Type 0 where
   pub known : All (λ (k : Row). (m : ℕ) → T (elem m (introduced k ++ needs k)) → (m ≡ 0 → ⊥) → (m ≡ close-point → ⊥) → T (elem m (points rows))) rows
   pub once : Distinct (points rows)
-  pub plain : All (λ (m : ℕ). Ordinary m × (m < 100)) (points rows)
-  pub few : length (points rows) ≤ 58
+  pub plain : All (λ (m : ℕ). Ordinary m × (m < point-numbers)) (points rows)
+  pub few : length (points rows) ≤ most-points

@@ -32,9 +32,13 @@ unsearched refusal places = record { refusal = refusal; hit = false; places = pl
 abbrev pub searched : List ℕ → Answer → Searched
 searched places a = record { refusal = 0; hit = isFound a; places = filled places a }
 
--- 33 fewer places lent than points; else the smallest matching of the rows, or none
+-- 33 fewer places lent than points
+abbrev pub too-few-places : ℕ
+too-few-places = 33
+
+-- so many, or else the smallest matching of the rows, or none
 abbrev pub searchRows : Run → List Row → (places : List ℕ) → Searched
-searchRows run rs places = cond (ltb (length places) (length (points rs))) (unsearched 33 places) (searched places (smallest-matching run rs))
+searchRows run rs places = cond (ltb (length places) (length (points rs))) (unsearched too-few-places places) (searched places (smallest-matching run rs))
 
 -- "Sheet's refusals, the log's, 31"; else the search of the antiscenario's rows
 unfoldable pub searchOf : (s l : List ℕ) (m : ℕ) (places : List ℕ) → Searched

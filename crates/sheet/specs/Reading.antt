@@ -2,9 +2,10 @@
 -- Assumes nothing.
 use mathlib.Core.Bool.{not, cond}
 use mathlib.Core.List.{List, [], _∷_}
-use Prim.Native.Nat.{ℕ, zero, suc, _+_, _*_, _^_}
+use Prim.Native.Nat.{ℕ, zero, suc, _+_, _*_}
 use lib.ListN.{length, getD, take, drop}
 use lib.Dec.{ltb, eqb}
+use Rattle.sheet.specs.Numbers.{most-consequents, most-rows, first-line-malformed, over-limits, wrong-length, row-malformed}
 use Rattle.columns.specs.Number.{fieldAt}
 use Rattle.columns.specs.declared.Field.{Field}
 use Rattle.columns.specs.declared.Field.the-variants.{Value, Bad}
@@ -29,18 +30,18 @@ headed refusal k rows = record { refusal = refusal; k = k; rows = rows }
 -- goes on with a field's value; a bad field is 1
 abbrev pub onHead : Field → (ℕ → Head) → Head
 onHead (Value v) f = f v
-onHead Bad f = headed 1 0 0
+onHead Bad f = headed first-line-malformed 0 0
 
 -- "1 first line short or malformed; 2 k over 6 or row count over 176; 3 length is not 7 + 35 × rows"
 unfoldable pub headOf : List ℕ → Head
 headOf s =
-    cond (ltb (length s) 7) (headed 1 0 0)
+    cond (ltb (length s) 7) (headed first-line-malformed 0 0)
     (onHead (fieldAt s 3) (λ k.
     onHead (fieldAt (drop 3 s) 3) (λ rows.
-    cond (not (eqb (getD s 6 0) 10)) (headed 1 0 0)
-    (cond (ltb 6 k) (headed 2 0 0)
-    (cond (ltb 176 rows) (headed 2 0 0)
-    (cond (not (eqb (length s) (7 + 35 * rows))) (headed 3 0 0)
+    cond (not (eqb (getD s 6 0) 10)) (headed first-line-malformed 0 0)
+    (cond (ltb most-consequents k) (headed over-limits 0 0)
+    (cond (ltb most-rows rows) (headed over-limits 0 0)
+    (cond (not (eqb (length s) (7 + 35 * rows))) (headed wrong-length 0 0)
     (headed 0 k rows)))))))
 
 -- Rows
@@ -73,7 +74,7 @@ rowBytes s i = take 35 (drop (7 + 35 * i) s)
 unfoldable pub rowsFrom : (k : ℕ) (s : List ℕ) (i left : ℕ) → Stand → Taken
 rowsFrom k s i zero at = stop 0 0
 rowsFrom k s i (suc left) at =
-    onLine (lineOf (rowBytes s i)) (stop 4 (suc i)) (λ l.
+    onLine (lineOf (rowBytes s i)) (stop row-malformed (suc i)) (λ l.
     cond (eqb (refusal k at l) 0) (more l (rowsFrom k s (suc i) left (after at l))) (stop (refusal k at l) (suc i)))
 
 -- The sheet of the rows
@@ -111,10 +112,6 @@ accepted k rows n = record { refusal = 0; row = 0; k = k; rows = rows; count = n
 -- the refusal of a row, or k, the row count and N. Document 02, A4: "Refusal 11 is never given."
 unfoldable pub closing : (k : ℕ) → Taken → Answer
 closing k t = cond (eqb (t .number) 0) (accepted k (length (t .lines)) (count (sheetOf k (t .lines)))) (refused (t .number) (t .row))
-
--- document 02, A4: a row has at most 2 denials, a consequent at most 24 rows, and there are at most 6 consequents
-abbrev pub most-antiscenarios : ℕ
-most-antiscenarios = 48 ^ 6
 
 unfoldable pub answer : List ℕ → Answer
 answer s = closing (headOf s .k) (taken s)

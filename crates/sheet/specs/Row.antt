@@ -5,6 +5,7 @@ use mathlib.Core.List.{List}
 use Prim.Native.Nat.{ℕ, _+_, _*_}
 use lib.ListN.{getD, drop}
 use lib.Dec.{ltb, leb, eqb}
+use Rattle.sheet.specs.Numbers.{most-antecedent-rows, most-consequent-rows, wrong-section, wrong-kind, wrong-p, wrong-q, wrong-field, section-too-long}
 use Rattle.scenario.specs.Rows.{close-point}
 use Rattle.columns.specs.Number.{fieldAt}
 use Rattle.columns.specs.declared.Field.{Field}
@@ -134,7 +135,7 @@ restFits kind q a b =
 
 -- 10 "section too long": "Section 0 is the antecedent (at most 32 rows), sections 1 to k the consequents (at most 24 rows each)"; rows stand before this one
 unfoldable pub roomFits : (s rows : ℕ) → Bool
-roomFits s rows = cond (eqb s 0) (ltb rows 32) (ltb rows 24)
+roomFits s rows = cond (eqb s 0) (ltb rows most-antecedent-rows) (ltb rows most-consequent-rows)
 
 -- what comes next, or the refusal where the test fails
 abbrev pub unless : Bool → (refusal next : ℕ) → ℕ
@@ -143,12 +144,12 @@ unless ok refusal next = cond ok next refusal
 -- the row's refusal from 6 on, or 0, within its section: `here` is where the reading stands in it
 unfoldable pub refusalWithin : (here : Stand) → Line → ℕ
 refusalWithin here l =
-    unless (kindFits (l .section) (l .kind)) 6
-    (unless (pFits (l .kind) (l .section) (here .antecedent) (here .own) (l .p)) 7
-    (unless (qFits (l .kind) (l .section) (here .antecedent) (here .own) (l .p) (l .q) (l .a)) 8
-    (unless (restFits (l .kind) (l .q) (l .a) (l .b)) 9
-    (unless (roomFits (l .section) (here .rows)) 10 0))))
+    unless (kindFits (l .section) (l .kind)) wrong-kind
+    (unless (pFits (l .kind) (l .section) (here .antecedent) (here .own) (l .p)) wrong-p
+    (unless (qFits (l .kind) (l .section) (here .antecedent) (here .own) (l .p) (l .q) (l .a)) wrong-q
+    (unless (restFits (l .kind) (l .q) (l .a) (l .b)) wrong-field
+    (unless (roomFits (l .section) (here .rows)) section-too-long 0))))
 
 -- the row's refusal, 5 to 10, or 0
 unfoldable pub refusal : (k : ℕ) (at : Stand) → Line → ℕ
-refusal k at l = unless (sectionFits k (at .section) (l .section)) 5 (refusalWithin (enter at (l .section)) l)
+refusal k at l = unless (sectionFits k (at .section) (l .section)) wrong-section (refusalWithin (enter at (l .section)) l)

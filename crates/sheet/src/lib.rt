@@ -2,6 +2,7 @@
 ghost use mathlib.Core.Path.{_≡_};
 ghost use Prim.Native.Nat.{_+_, _*_, _≤_, _<_};
 ghost use lib.ListN.{length, replicate, set};
+ghost use Rattle.sheet.specs.Numbers.{most-consequents, most-rows, sheet-room};
 ghost use Rattle.sheet.specs.Row.{lineOf, enter, advance, ordinary, known, kindFits, pFits, originFits, qFits, restFits, roomFits, refusalWithin, refusal, isDue, bothOrdinary, ordinaryBut, knownBut, setOnly, bothZero, start};
 ghost use Rattle.sheet.specs.Reading.{headed, headOf, rowsFrom, taken, refused, answer, countOf};
 ghost use Rattle.sheet.specs.Memory.{put, lay, linesIn, edge, weightFree, weight, weighLine, lineIn, sectionAt, kindAt, pAt, qAt, aAt, bAt, Weighed, product};
@@ -186,7 +187,7 @@ fn parse(row: &[u8]) -> Parsed
 
 // "All others are ordinary and known once introduced": those of the antecedent and of the row's own section s.
 fn ordinary_point(s: u32, antecedent: u32, own: u32, m: u32) -> bool
-    requires { ⌜ (s ≤ 6) × (own ≤ 176) ⌝ }
+    requires { ⌜ (s ≤ most-consequents) × (own ≤ most-rows) ⌝ }
     ensures { λ r. ⌜ r ≡ ordinary s antecedent own m ⌝ }
 {
     if m == 0 {
@@ -203,7 +204,7 @@ fn ordinary_point(s: u32, antecedent: u32, own: u32, m: u32) -> bool
 
 // "Points: 0 is the start and 99 the close, always known."
 fn known_point(s: u32, antecedent: u32, own: u32, m: u32) -> bool
-    requires { ⌜ (s ≤ 6) × (own ≤ 176) ⌝ }
+    requires { ⌜ (s ≤ most-consequents) × (own ≤ most-rows) ⌝ }
     ensures { λ r. ⌜ r ≡ known s antecedent own m ⌝ }
 {
     if m == START {
@@ -229,7 +230,7 @@ fn kind_fits(s: u32, kind: u32) -> bool
 
 // The number due is one more than those introduced; "none is due past a section's last".
 fn due(first: u32, last: u32, count: u32, p: u32) -> bool
-    requires { ⌜ (first ≤ 60) × (count ≤ 176) ⌝ }
+    requires { ⌜ (first ≤ 60) × (count ≤ most-rows) ⌝ }
     ensures { λ r. ⌜ r ≡ isDue first last count p ⌝ }
 {
     if last <= count {
@@ -240,7 +241,7 @@ fn due(first: u32, last: u32, count: u32, p: u32) -> bool
 
 // "7 p not the number due (kinds 1 to 5) or not a permitted known point".
 fn p_fits(kind: u32, s: u32, antecedent: u32, own: u32, p: u32) -> bool
-    requires { ⌜ (1 ≤ kind) × (kind ≤ 12) × (s ≤ 6) × (antecedent ≤ 176) × (own ≤ 176) ⌝ }
+    requires { ⌜ (1 ≤ kind) × (kind ≤ 12) × (s ≤ most-consequents) × (antecedent ≤ most-rows) × (own ≤ most-rows) ⌝ }
     ensures { λ r. ⌜ r ≡ pFits kind s antecedent own p ⌝ }
 {
     match kind {
@@ -255,7 +256,7 @@ fn p_fits(kind: u32, s: u32, antecedent: u32, own: u32, p: u32) -> bool
 
 // "Both points ordinary and different."
 fn two_ordinary(s: u32, antecedent: u32, own: u32, q: u32, other: u32) -> bool
-    requires { ⌜ (s ≤ 6) × (own ≤ 176) ⌝ }
+    requires { ⌜ (s ≤ most-consequents) × (own ≤ most-rows) ⌝ }
     ensures { λ r. ⌜ r ≡ bothOrdinary s antecedent own q other ⌝ }
 {
     if q == other {
@@ -269,7 +270,7 @@ fn two_ordinary(s: u32, antecedent: u32, own: u32, q: u32, other: u32) -> bool
 
 // An ordinary known point, and another than `other`.
 fn ordinary_but(s: u32, antecedent: u32, own: u32, q: u32, other: u32) -> bool
-    requires { ⌜ (s ≤ 6) × (own ≤ 176) ⌝ }
+    requires { ⌜ (s ≤ most-consequents) × (own ≤ most-rows) ⌝ }
     ensures { λ r. ⌜ r ≡ ordinaryBut s antecedent own q other ⌝ }
 {
     if q == other {
@@ -280,7 +281,7 @@ fn ordinary_but(s: u32, antecedent: u32, own: u32, q: u32, other: u32) -> bool
 
 // A known point, the ends among them, and another than `other`.
 fn known_but(s: u32, antecedent: u32, own: u32, q: u32, other: u32) -> bool
-    requires { ⌜ (s ≤ 6) × (own ≤ 176) ⌝ }
+    requires { ⌜ (s ≤ most-consequents) × (own ≤ most-rows) ⌝ }
     ensures { λ r. ⌜ r ≡ knownBut s antecedent own q other ⌝ }
 {
     if q == other {
@@ -291,7 +292,7 @@ fn known_but(s: u32, antecedent: u32, own: u32, q: u32, other: u32) -> bool
 
 // The points that p's position comes from: q of NEXT is not 99, q of LAST is not 0, q and a of EARLIER and LATER are ordinary and different.
 fn origin_fits(kind: u32, s: u32, antecedent: u32, own: u32, q: u32, a: u32) -> bool
-    requires { ⌜ (2 ≤ kind) × (kind ≤ 5) × (s ≤ 6) × (own ≤ 176) ⌝ }
+    requires { ⌜ (2 ≤ kind) × (kind ≤ 5) × (s ≤ most-consequents) × (own ≤ most-rows) ⌝ }
     ensures { λ r. ⌜ r ≡ originFits kind s antecedent own q a ⌝ }
 {
     match kind {
@@ -304,7 +305,7 @@ fn origin_fits(kind: u32, s: u32, antecedent: u32, own: u32, q: u32, a: u32) -> 
 
 // "8 q, or a in kinds 4 and 5, not a permitted known point or not different". Kinds 1 and 12 have no q.
 fn q_fits(kind: u32, s: u32, antecedent: u32, own: u32, p: u32, q: u32, a: u32) -> bool
-    requires { ⌜ (s ≤ 6) × (own ≤ 176) ⌝ }
+    requires { ⌜ (s ≤ most-consequents) × (own ≤ most-rows) ⌝ }
     ensures { λ r. ⌜ r ≡ qFits kind s antecedent own p q a ⌝ }
 {
     match kind {
@@ -367,7 +368,7 @@ fn room_fits(s: u32, rows: u32) -> bool
 
 // A row's refusal from 6 on, or 0, as it finds its section.
 fn refuse_within(here: Stand, line: Line) -> u32
-    requires { ⌜ (line .section ≤ 6) × (here .antecedent ≤ 176) × (here .own ≤ 176) ⌝ }
+    requires { ⌜ (line .section ≤ most-consequents) × (here .antecedent ≤ most-rows) × (here .own ≤ most-rows) ⌝ }
     ensures { λ r. ⌜ r ≡ refusalWithin here line ⌝ }
 {
     if !kind_fits(line.section, line.kind) {
@@ -398,7 +399,7 @@ fn refuse_within(here: Stand, line: Line) -> u32
 
 // A row's refusal, or 0: "5 section above k or below the preceding row's", and then 6 to 10.
 fn refuse(k: u32, at: Stand, line: Line) -> u32
-    requires { ⌜ (k ≤ 6) × (at .antecedent ≤ 176) × (at .own ≤ 176) ⌝ }
+    requires { ⌜ (k ≤ most-consequents) × (at .antecedent ≤ most-rows) × (at .own ≤ most-rows) ⌝ }
     ensures { λ r. ⌜ r ≡ refusal k at line ⌝ }
 {
     if line.section < at.section {
@@ -427,7 +428,7 @@ fn enter_section(at: Stand, s: u32) -> Stand
 
 // Where it stands after a row of this kind; kinds 1 to 5 introduce a point.
 fn after_row(at: Stand, kind: u32) -> Stand
-    requires { ⌜ (at .rows ≤ 176) × (at .antecedent ≤ 176) × (at .own ≤ 176) ⌝ }
+    requires { ⌜ (at .rows ≤ most-rows) × (at .antecedent ≤ most-rows) × (at .own ≤ most-rows) ⌝ }
     ensures { λ r. ⌜ r ≡ advance at kind ⌝ }
 {
     match kind {
@@ -534,7 +535,7 @@ pub fn put_line(rows: &mut [u32], i: usize, line: Line)
 
 // "then row by row": n rows into the memory, until one is refused.
 fn read_rows(s: &[u8], k: u32, n: usize, rows: &mut [u32]) -> Fault
-    requires { ⌜ (k ≤ 6) × (n ≤ 176) × (7 + 35 * n ≤ length (now s)) × (1056 ≤ length (now rows)) ⌝ }
+    requires { ⌜ (k ≤ most-consequents) × (n ≤ most-rows) × (7 + 35 * n ≤ length (now s)) × (sheet-room ≤ length (now rows)) ⌝ }
     ensures answers { λ r. ⌜ (r .refusal ≡ rowsFrom k (now (s .entry)) 0 n start .number) × (r .row ≡ rowsFrom k (now (s .entry)) 0 n start .row) ⌝ }
     ensures memory { λ r. ⌜ now (rows .exit) ≡ lay 0 (rowsFrom k (now (s .entry)) 0 n start .lines) (now (rows .entry)) ⌝ }
 {
@@ -610,7 +611,7 @@ fn weigh(kind: u32, p: u32, q: u32) -> u64
 
 // How many denials the row with number i, from 0, has in a section.
 pub fn weigh_at(rows: &[u32], i: usize, section: u32) -> u64
-    requires { ⌜ (i < 176) × (1056 ≤ length (now rows)) ⌝ }
+    requires { ⌜ (i < most-rows) × (sheet-room ≤ length (now rows)) ⌝ }
     ensures { λ r. ⌜ (r ≡ weighLine section (lineIn (now (rows .entry)) i)) × (r ≤ 2) ⌝ }
 {
     if section_of(rows, i) != section {
@@ -621,7 +622,7 @@ pub fn weigh_at(rows: &[u32], i: usize, section: u32) -> u64
 
 // How many denials each section has, by its number, in one walk over the rows.
 pub fn weigh_sections(rows: &[u32], n: usize, denials: &mut [u64; SECTIONS])
-    requires { ⌜ (n ≤ 176) × (1056 ≤ length (now rows)) × (now denials ≡ replicate 7 0) ⌝ }
+    requires { ⌜ (n ≤ most-rows) × (sheet-room ≤ length (now rows)) × (now denials ≡ replicate 7 0) ⌝ }
     ensures { λ _. ⌜ Weighed (now (denials .exit)) (linesIn (now (rows .entry)) 0 n) ⌝ }
 {
     let mut i: usize = 0;
@@ -646,7 +647,7 @@ fn multiplied(total: u64, denials: u64) -> u64
 
 // "Their count N is the product of the denials per consequent; with k = 0, N is 1".
 fn product_of(rows: &[u32], n: usize, k: u32) -> u64
-    requires { ⌜ (n ≤ 176) × (k ≤ 6) × (1056 ≤ length (now rows)) ⌝ }
+    requires { ⌜ (n ≤ most-rows) × (k ≤ most-consequents) × (sheet-room ≤ length (now rows)) ⌝ }
     ensures { λ r. ⌜ r ≡ product 1 k (linesIn (now (rows .entry)) 0 n) ⌝ }
 {
     let mut denials = [0u64; SECTIONS];
@@ -676,7 +677,7 @@ fn no_sheet(refusal: u32, row: u32) -> Answer
 
 // Reads a sheet: its rows into the memory, six numbers to a row, and N; or the refusal with the row that it is about, and the rows before that one.
 pub fn load_sheet(s: &[u8], rows: &mut [u32]) -> Answer
-    requires { ⌜ 1056 ≤ length (now rows) ⌝ }
+    requires { ⌜ sheet-room ≤ length (now rows) ⌝ }
     ensures answers { λ r. ⌜ r ≡ answer (now (s .entry)) ⌝ }
     ensures memory { λ r. ⌜ now (rows .exit) ≡ lay 0 (taken (now (s .entry)) .lines) (now (rows .entry)) ⌝ }
 {

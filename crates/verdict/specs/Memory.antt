@@ -6,6 +6,7 @@ use mathlib.Core.List.{List, [], _∷_}
 use Prim.Native.Nat.{ℕ, suc, _≤_}
 use lib.ListN.{length, take}
 use lib.Dec.{eqb}
+use Rattle.sheet.specs.Numbers.{most-rows}
 use Rattle.scenario.specs.Rows.{Run, points}
 use Rattle.scenario.specs.Sheet.{Sheet}
 use Rattle.scenario.specs.Fields.{Tagged, tagged}
@@ -22,7 +23,7 @@ sheetAt rows count k = sheetOf k (linesIn rows 0 count)
 pub record SheetHeld (rows : List ℕ) (count k : ℕ) : Type 0 where
   pub read : SheetRead (sheetAt rows count k)
   pub tags : tagsOf rows count ≡ tagged 0 (sheetAt rows count k .antecedent ∷ sheetAt rows count k .consequents)
-  pub few : count ≤ 176
+  pub few : count ≤ most-rows
   pub consequents : length (sheetAt rows count k .consequents) ≡ k
 
 -- how many rows of section 0 stand at the front

@@ -1,0 +1,69 @@
+-- Document 01's numbers for a sheet: its limits, and the refusals of "Read a sheet".
+-- Assumes nothing.
+use Prim.Native.Nat.{ℕ, _*_}
+
+-- "consequents k (at most 6), row count (at most 176)"
+abbrev pub most-consequents : ℕ
+most-consequents = 6
+
+abbrev pub most-rows : ℕ
+most-rows = 176
+
+-- "the antecedent (at most 32 rows), .. the consequents (at most 24 rows each)"
+abbrev pub most-antecedent-rows : ℕ
+most-antecedent-rows = 32
+
+abbrev pub most-consequent-rows : ℕ
+most-consequent-rows = 24
+
+-- the largest N
+abbrev pub most-antiscenarios : ℕ
+most-antiscenarios = 4096
+
+-- in memory: six numbers to a row
+abbrev pub sheet-room : ℕ
+sheet-room = 6 * most-rows
+
+-- 1 first line short or malformed
+abbrev pub first-line-malformed : ℕ
+first-line-malformed = 1
+
+-- 2 k over 6 or row count over 176
+abbrev pub over-limits : ℕ
+over-limits = 2
+
+-- 3 length is not 7 + 35 × rows
+abbrev pub wrong-length : ℕ
+wrong-length = 3
+
+-- 4 row malformed
+abbrev pub row-malformed : ℕ
+row-malformed = 4
+
+-- 5 section above k or below the preceding row's
+abbrev pub wrong-section : ℕ
+wrong-section = 5
+
+-- 6 kind unknown or not for this section
+abbrev pub wrong-kind : ℕ
+wrong-kind = 6
+
+-- 7 p not the number due or not a permitted known point
+abbrev pub wrong-p : ℕ
+wrong-p = 7
+
+-- 8 q, or a in kinds 4 and 5, not a permitted known point or not different
+abbrev pub wrong-q : ℕ
+wrong-q = 8
+
+-- 9 an unused field not 0, an empty set, or a above b in kinds 10 and 11
+abbrev pub wrong-field : ℕ
+wrong-field = 9
+
+-- 10 section too long
+abbrev pub section-too-long : ℕ
+section-too-long = 10
+
+-- 11 N over 4,096
+abbrev pub too-many-antiscenarios : ℕ
+too-many-antiscenarios = 11
