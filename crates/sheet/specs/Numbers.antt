@@ -1,4 +1,4 @@
--- Document 01's numbers for a sheet: its limits, and the refusals of "Read a sheet".
+-- Document 01's numbers for a sheet: its limits, and the refusals of "Read a sheet". What must be believed.
 -- Assumes nothing.
 use Prim.Native.Nat.{ℕ, _*_}
 
