@@ -23,7 +23,8 @@ use Rattle.sheet.specs.declared.Stand.{Stand}
 use Rattle.sheet.specs.declared.Parsed.{Parsed}
 use Rattle.sheet.specs.declared.Parsed.the-variants.{Row as Parsed·row, Malformed}
 use Rattle.sheet.specs.Row.{start, lineOf, refusal}
-use Rattle.sheet.specs.Reading.{headOf, Taken, stop, onLine, after, rowBytes, rowsFrom, rowIn, section, sections, sheetOf, taken, refused, accepted, closing, answer, most-antiscenarios}
+use Rattle.sheet.specs.Reading.{headOf, Taken, stop, onLine, after, rowBytes, rowsFrom, rowIn, section, sections, sheetOf, taken, refused, accepted, closing, answer}
+use Rattle.sheet.specs.Numbers.{most-antiscenarios}
 use Rattle.sheet.specs.Memory.{lay, linesIn}
 use Rattle.sheet.specs.Text.{Fits, sheetText}
 use Rattle.sheet.proofs.Texts.{row-fits, text-only}

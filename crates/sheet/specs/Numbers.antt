@@ -1,6 +1,6 @@
--- Document 01's numbers for a sheet: its limits, and the refusals of "Read a sheet".
+-- Document 01's numbers for a sheet: its limits, and the refusals of "Read a sheet". What must be believed.
 -- Assumes nothing.
-use Prim.Native.Nat.{ℕ, _*_}
+use Prim.Native.Nat.{ℕ, _*_, _^_}
 
 -- "consequents k (at most 6), row count (at most 176)"
 abbrev pub most-consequents : ℕ
@@ -16,9 +16,9 @@ most-antecedent-rows = 32
 abbrev pub most-consequent-rows : ℕ
 most-consequent-rows = 24
 
--- the largest N
+-- document 02, A4: the largest N, as a row has at most 2 denials, a consequent at most 24 rows, and there are at most 6 consequents
 abbrev pub most-antiscenarios : ℕ
-most-antiscenarios = 4096
+most-antiscenarios = 48 ^ 6
 
 -- in memory: six numbers to a row
 abbrev pub sheet-room : ℕ
@@ -63,7 +63,3 @@ wrong-field = 9
 -- 10 section too long
 abbrev pub section-too-long : ℕ
 section-too-long = 10
-
--- 11 N over 4,096
-abbrev pub too-many-antiscenarios : ℕ
-too-many-antiscenarios = 11
