@@ -5,7 +5,7 @@ use satskhubo_tests::compare::{compare, compare_once, Tally};
 use satskhubo_tests::generate::logs::{log_of, of_length};
 use satskhubo_tests::generate::pairs::large_pair_of;
 use satskhubo_tests::generate::sheets::{self, largest};
-use satskhubo_tests::generate::targeted::{fullest, with_denials};
+use satskhubo_tests::generate::targeted::{all_before, fullest, with_denials};
 use satskhubo_tests::generate::{families, Pair};
 use satskhubo_tests::host::Host;
 use satskhubo_tests::random::Random;
@@ -66,7 +66,7 @@ fn the_largest_sheets() {
         for sheet in [largest(), with_denials([4; 6])] {
             tally += tallied(compare(&Host, &Pair { sheet, log: log.clone() }, 0, 4096));
         }
-        for sheet in [with_denials([4, 4, 4, 4, 4, 5]), fullest()] {
+        for sheet in [with_denials([4, 4, 4, 4, 4, 5]), all_before(), fullest()] {
             tally += tallied(compare(&Host, &Pair { sheet, log: log.clone() }, 0, 40));
         }
     }

@@ -292,5 +292,5 @@ fn antiscenarios_and_searches() {
 ";
     assert_eq!(run(&["search", SHEET, LOG]).answer(), (1, found.to_string()));
     let (status, none) = run(&["search", SHEET, KEPT]).answer();
-    assert_eq!((status, none.as_str()), (0, "0 of 4 antiscenarios found in examples/lockmass/log-kept\n"));
+    assert_eq!((status, none.as_str()), (0, "none of the 4 antiscenarios is found in examples/lockmass/log-kept\n"));
 }

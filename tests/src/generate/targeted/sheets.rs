@@ -319,10 +319,19 @@ pub fn with_denials(counts: [usize; 6]) -> Vec<u8> {
     sheet_of(6, &rows)
 }
 
-/// Every section full, with BEFORE rows: 176 rows and 48^6 antiscenarios.
+/// Two scans, and 24 BEFORE rows in each of six consequents: 48^6 antiscenarios, of which every other denial is SAME.
+pub fn all_before() -> Vec<u8> {
+    with_all_before(0)
+}
+
+/// Every section full, with BEFORE rows: 176 rows and 48^6 antiscenarios, which no log meets.
 pub fn fullest() -> Vec<u8> {
+    with_all_before(30)
+}
+
+fn with_all_before(in_antecedent: usize) -> Vec<u8> {
     let mut rows = vec![[0, 1, 1, 0, 8, 0], [0, 1, 2, 0, 8, 0]];
-    rows.extend(vec![[0, 6, 1, 2, 0, 0]; 30]);
+    rows.extend(vec![[0, 6, 1, 2, 0, 0]; in_antecedent]);
     for section in 1..=6 {
         rows.extend(vec![[section, 6, 1, 2, 0, 0]; 24]);
     }
@@ -341,6 +350,7 @@ pub fn counted() -> Vec<(Vec<u8>, u64)> {
         (with_denials([24, 24, 7, 1, 1, 1]), 4032),
         (with_denials([24, 24, 8, 1, 1, 1]), 4608),
         (with_denials([24; 6]), 191_102_976),
+        (all_before(), 12_230_590_464),
         (fullest(), 12_230_590_464),
     ]
 }
