@@ -7,7 +7,7 @@
  * memory, but the pointer must not be null. Nothing is kept between calls, nothing is allocated, no call blocks, and calls on
  * different threads do not meet.
  *
- * Every function gives one number. 1 to 11: the sheet is refused; 21 to 27: the log is refused; 31 to 34: the antiscenario's
+ * Every function gives one number. 1 to 10: the sheet is refused; 21 to 27: the log is refused; 31 to 34: the antiscenario's
  * number, the buffer, the places or the number of positions is refused; 0: the operation was carried out. The check gives 100 as
  * well: the sheet is violated. The sheet's refusals come before the log's, and the log's before 31 to 34. On a refusal no
  * memory of the caller's is written, but for satskhubo_show and satskhubo_line, which refuse nothing.
@@ -44,7 +44,7 @@ uint32_t check(const uint8_t *sheet, size_t sheet_len, const uint8_t *log, size_
 /* Reads a log. 0: *lines is n, the number of its lines. 21 to 27: *lines is unchanged. */
 uint32_t satskhubo_read_log(const uint8_t *log, size_t log_len, uint32_t *lines);
 
-/* Reads a sheet. 0: *count is N, the number of its antiscenarios. 1 to 11: *count is unchanged. */
+/* Reads a sheet. 0: *count is N, the number of its antiscenarios, at most 12,230,590,464. 1 to 10: *count is unchanged. */
 uint32_t satskhubo_read_sheet(const uint8_t *sheet, size_t sheet_len, uint64_t *count);
 
 /*

@@ -1,8 +1,8 @@
-//! satskhubo antiscenarios: the patterns of every way to break a sheet's rule, or one of them.
+//! satskhubo antiscenarios: the patterns of every way to break a sheet's rule, or some of them.
 use crate::arguments::{Asked, Form};
 use crate::events::Events;
 use crate::json::{array, Object};
-use crate::numbered::{numbers, text};
+use crate::numbered::{how_to_ask, numbers, text, too_many};
 use crate::opened::{open, Opened};
 use crate::output::{complain, Output, FAILED};
 use crate::sheet::{Row, Sheet};
@@ -26,13 +26,21 @@ fn say_all(asked: &Asked, opened: &Opened, output: &mut Output) -> Answer<i32> {
     if asked.form == Form::Words && opened.count == 0 {
         output.say("the sheet has no antiscenarios: it holds on every log that is accepted\n");
     }
-    for number in numbers {
+    if asked.form != Form::Words && numbers.are_too_many() {
+        complain(&too_many(asked, opened));
+        return Ok(FAILED);
+    }
+    let listed = numbers.listed();
+    for number in listed.each() {
         let text = text(opened, number)?;
         match asked.form {
             Form::Plain => output.say_bytes(&text),
             Form::Words => output.say(&in_words(opened, number, &Sheet::of(&text)?)),
             Form::Json => output.say(&object(opened, number, &text)?),
         }
+    }
+    if numbers.are_too_many() {
+        output.say(&format!("{} of {} antiscenarios are listed; {}\n", listed.total(), opened.count, how_to_ask(asked)));
     }
     Ok(0)
 }

@@ -1,8 +1,9 @@
 //! What the command line asks for: a command, its options and its names, or a sentence that says what is wrong with it.
 use crate::names::{printable, Name};
 use crate::nearest::nearest;
-use crate::number::number;
+use crate::number::range;
 use std::ffi::{OsStr, OsString};
+use std::ops::RangeInclusive;
 use std::os::unix::ffi::OsStrExt;
 
 #[derive(Clone, Copy, Debug, PartialEq, Eq)]
@@ -35,8 +36,8 @@ pub struct Asked {
     pub command: Command,
     pub form: Form,
     pub events: Option<Name>,
-    /// The antiscenario asked for; none for all.
-    pub number: Option<u64>,
+    /// The antiscenarios asked for; none for all.
+    pub numbers: Option<RangeInclusive<u64>>,
     pub sheet: Name,
     pub logs: Vec<Name>,
 }
@@ -173,13 +174,17 @@ fn form_of(command: Command, sorted: &Sorted) -> Result<Form, String> {
     }
 }
 
-/// The number of an antiscenario, by the option or behind the sheet.
-fn number_of(command: Command, by_option: Option<OsString>, names: &mut Vec<OsString>) -> Result<Option<u64>, String> {
+/// The number of an antiscenario, or FIRST-LAST, by the option or behind the sheet.
+fn numbers_of(
+    command: Command,
+    by_option: Option<OsString>,
+    names: &mut Vec<OsString>,
+) -> Result<Option<RangeInclusive<u64>>, String> {
     let by_name = if command == Command::Antiscenarios { names.pop() } else { None };
     match (command, by_option, by_name) {
         (Command::Check | Command::Explain, Some(_), _) => Err("--number is for search and antiscenarios".to_string()),
         (_, Some(_), Some(_)) => Err("the number is given twice".to_string()),
-        (_, Some(text), None) | (_, None, Some(text)) => number(&text).map(Some),
+        (_, Some(text), None) | (_, None, Some(text)) => range(&text).map(Some),
         (_, None, None) => Ok(None),
     }
 }
@@ -202,12 +207,12 @@ fn settled(command: Command, sorted: Sorted) -> Result<Asked, String> {
     if rest.len() > most {
         return Err(format!("{} is one name too many", printable(rest[most].as_bytes())));
     }
-    let number = number_of(command, sorted.number, &mut rest)?;
+    let numbers = numbers_of(command, sorted.number, &mut rest)?;
     let asked = Asked {
         command,
         form,
         events: sorted.events.map(|name| Name::new(&name)),
-        number,
+        numbers,
         sheet: Name::new(&sheet),
         logs: rest.iter().map(|name| Name::new(name)).collect(),
     };

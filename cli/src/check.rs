@@ -21,14 +21,14 @@ pub fn run(asked: &Asked, output: &mut Output) -> i32 {
     let Some(opened) = open(asked, output) else { return FAILED };
     let logs = Logs::of(&asked.logs, &opened.left_out());
     let task = Task { opened, form: asked.form, is_one: logs.is_one() };
-    let progress = Progress::new(logs.listed.len(), "logs");
+    let progress = Progress::new(logs.listed.len() as u64, "logs");
     let mut reporter = Reporter { output, progress: &progress, tally: Tally::default() };
-    let work = |index: usize| {
-        let reply = task.reply(&logs.listed[index]);
+    let work = |index: u64| {
+        let reply = task.reply(&logs.listed[index as usize]);
         progress.step();
         reply
     };
-    in_order(logs.listed.len(), work, &mut reporter);
+    in_order(logs.listed.len() as u64, work, &mut reporter);
     let Reporter { tally, .. } = reporter;
     progress.end();
     if asked.form == Form::Words && !task.is_one {

@@ -16,7 +16,7 @@ Options stand behind the command:
     --plain          numbers in columns
     --json           JSON, one object a line
     --events FILE    names of events, a line each: 3 scan (else the file `events` beside the sheet, where there is one)
-    --number M       of the antiscenario
+    --number M       of the antiscenario; FIRST-LAST for some of them
     --               ends the options, for names that begin with a dash
 Exit status: 0 all hold, or nothing is found; 1 some are violated, or found; 2 something is refused, not read or failed.
 ";
@@ -33,20 +33,24 @@ Exit status: 0 all hold; 1 some are violated; 2 something is refused, not read o
 ";
 
 const ANTISCENARIOS: &str = "\
-satskhubo antiscenarios SHEET [NUMBER] [--plain | --json] [--events FILE]
+satskhubo antiscenarios SHEET [NUMBER | FIRST-LAST] [--plain | --json] [--events FILE]
 
-The antiscenarios of the sheet, or the one of that number: the antecedent, and for each consequent one way in which it fails.
---plain: the texts as document 01 has them, one after the other. --json: an object each: number, of, rows, text.
+The antiscenarios of the sheet, or the one of that number, or those from FIRST to LAST: the antecedent, and for each consequent
+one way in which it fails. A sheet has up to 12,230,590,464. Without numbers 4,096 are listed, and then how many there are.
+--plain: the texts as document 01 has them, one after the other. --json: an object each: number, of, rows, text. Both give all or,
+where there are over 4,096 and no numbers are given, none.
 Exit status: 0 done; 2 refused, not read or failed.
 ";
 
 const SEARCH: &str = "\
-satskhubo search SHEET LOG.. [--number M] [--plain | --json] [--events FILE]
+satskhubo search SHEET LOG.. [--number M | --number FIRST-LAST] [--plain | --json] [--events FILE]
 
-Where the antiscenarios are found in each log, or the one of that number: a line for each of its points, with the row of
-the antiscenario that introduces the point.
+Where the antiscenarios are found in each log, or the one of that number, or those from FIRST to LAST: a line for each of its
+points, with the row of the antiscenario that introduces the point. The check is asked first: where it says that the log keeps
+the rule, none is found, which is proved, and none is searched. Else they are searched in order, and each that is found is
+written at once, so that Ctrl-C leaves what was found until then.
 --plain: a line a number: refusal (3 columns), number (11), found (3), positions (5 each). --json: an object a number: file,
-sheet, number, found, points, positions, lines, ticks, events.
+sheet, number, found, points, positions, lines, ticks, events. Where there are over 4,096 both need numbers.
 Exit status: 0 nothing is found; 1 something is found; 2 something is refused, not read or failed.
 ";
 

@@ -7,7 +7,7 @@ use std::time::{Duration, Instant};
 const PERIOD: Duration = Duration::from_secs(1);
 
 struct State {
-    done: usize,
+    done: u64,
     /// The width of what stands on the terminal.
     drawn: usize,
     is_over: bool,
@@ -44,7 +44,7 @@ fn wipe(state: &mut State) {
 }
 
 /// Draws once a period until it is over.
-fn tick(shared: &Shared, total: usize, noun: &str) {
+fn tick(shared: &Shared, total: u64, noun: &str) {
     let begun = Instant::now();
     let mut state = shared.state();
     while !state.is_over {
@@ -60,7 +60,7 @@ fn tick(shared: &Shared, total: usize, noun: &str) {
 
 impl Progress {
     /// Of so many things; without a terminal, nothing is ever drawn.
-    pub fn new(total: usize, noun: &'static str) -> Progress {
+    pub fn new(total: u64, noun: &'static str) -> Progress {
         let state = Mutex::new(State { done: 0, drawn: 0, is_over: false });
         let shared = Arc::new(Shared { state, over: Condvar::new() });
         if !std::io::stderr().is_terminal() {

@@ -6,7 +6,7 @@ use crate::json::numbers as json_numbers;
 use crate::log::Log;
 use crate::logs::{Listed, Logs};
 use crate::names::Name;
-use crate::numbered::{numbers, text};
+use crate::numbered::{numbers, text, too_many, Numbers, MOST_UNASKED};
 use crate::opened::{named, open, Opened};
 use crate::order::{in_order, Taker};
 use crate::output::{complain, Output, FAILED};
@@ -14,9 +14,8 @@ use crate::placed::{in_object, placed};
 use crate::progress::Progress;
 use crate::reply::{Reply, Reporter, Standing, Tally};
 use crate::sheet::{Row, Sheet};
-use crate::words::point;
-use satskhubo_interface::answer::{read_log, search, Answer, Failure, LogRead, Searched};
-use std::ops::RangeInclusive;
+use crate::words::{count, point};
+use satskhubo_interface::answer::{check, read_log, search, Answer, Failure, LogRead, Searched, Verdict};
 
 pub fn run(asked: &Asked, output: &mut Output) -> i32 {
     let Some(opened) = open(asked, output) else { return FAILED };
@@ -28,11 +27,15 @@ pub fn run(asked: &Asked, output: &mut Output) -> i32 {
             return FAILED;
         }
     };
+    if asked.form != Form::Words && numbers.are_too_many() {
+        complain(&too_many(asked, &opened));
+        return FAILED;
+    }
     let logs = Logs::of(&asked.logs, &opened.left_out());
     let task = Task { opened, form: asked.form, is_one: logs.is_one(), numbers };
-    match &logs.listed[..] {
-        [listed] => task.run_on_one(listed, &logs, output),
-        _ => task.run_on_several(&logs, output),
+    match logs.listed.len() == 1 || numbers.total() > MOST_UNASKED {
+        true => task.run_in_turn(&logs, output),
+        false => task.run_at_once(&logs, output),
     }
 }
 
@@ -40,7 +43,7 @@ struct Task {
     opened: Opened,
     form: Form,
     is_one: bool,
-    numbers: RangeInclusive<u64>,
+    numbers: Numbers,
 }
 
 /// A log to search in, read and accepted.
@@ -56,15 +59,6 @@ struct Part {
 }
 
 impl Task {
-    /// The numbers and the count of them, of which there are at most 4,096.
-    fn total(&self) -> usize {
-        self.numbers.clone().count()
-    }
-
-    fn number(&self, index: usize) -> u64 {
-        self.numbers.start() + index as u64
-    }
-
     fn failed(&self, name: &Name, failure: Failure) -> Reply {
         failed(&self.opened, self.form, name, failure)
     }
@@ -83,14 +77,18 @@ impl Task {
         Ok(Readied { input, log })
     }
 
-    /// One log: the numbers on all cores.
-    fn run_on_one(&self, listed: &Listed, logs: &Logs, output: &mut Output) -> i32 {
-        let progress = Progress::new(self.total(), "numbers");
-        let reply = self.reply_in_parts(listed, output, &progress);
-        let mut reporter = Reporter { output, progress: &progress, tally: Tally::default() };
-        reporter.take(reply);
-        let Reporter { tally, .. } = reporter;
-        progress.end();
+    /// One log after the other, the numbers of each on all cores.
+    fn run_in_turn(&self, logs: &Logs, output: &mut Output) -> i32 {
+        let mut tally = Tally::default();
+        for listed in &logs.listed {
+            let progress = Progress::new(self.numbers.total(), "numbers");
+            let reply = self.reply_in_parts(listed, output, &progress);
+            let mut reporter = Reporter { output: &mut *output, progress: &progress, tally };
+            reporter.take(reply);
+            reporter.wait();
+            tally = reporter.tally;
+            progress.end();
+        }
         self.end(logs, &tally, output)
     }
 
@@ -100,26 +98,36 @@ impl Task {
             Ok(readied) => readied,
             Err(reply) => return reply,
         };
-        let mut parts = Parts { output, progress, searched: 0, found: 0, failures: Vec::new() };
+        match self.are_none(&readied) {
+            Ok(false) => {}
+            Ok(true) => {
+                let said = self.say_none(&readied, &mut |text| output.say(text));
+                return self.ended(&readied, said.map(|()| 0));
+            }
+            Err(failure) => return self.failed(&readied.input.name, failure),
+        }
+        let mut parts = Parts { output, progress, searched: 0, found: 0, failure: None };
         let work = |index| {
-            let part = self.part(&readied, self.number(index));
+            let part = self.part(&readied, self.numbers.first + index);
             progress.step();
             part
         };
-        in_order(self.total(), work, &mut parts);
-        parts.end(self, &readied)
+        in_order(self.numbers.total(), work, &mut parts);
+        let found = parts.end(self.numbers.total());
+        self.ended(&readied, found)
     }
 
     /// Several logs, on all cores: the numbers of each one after the other.
-    fn run_on_several(&self, logs: &Logs, output: &mut Output) -> i32 {
-        let progress = Progress::new(logs.listed.len(), "logs");
+    fn run_at_once(&self, logs: &Logs, output: &mut Output) -> i32 {
+        let progress = Progress::new(logs.listed.len() as u64, "logs");
         let mut reporter = Reporter { output, progress: &progress, tally: Tally::default() };
-        let work = |index: usize| {
-            let reply = self.readied(&logs.listed[index]).map_or_else(|reply| reply, |readied| self.reply(&readied));
+        let work = |index: u64| {
+            let readied = self.readied(&logs.listed[index as usize]);
+            let reply = readied.map_or_else(|reply| reply, |readied| self.reply(&readied));
             progress.step();
             reply
         };
-        in_order(logs.listed.len(), work, &mut reporter);
+        in_order(logs.listed.len() as u64, work, &mut reporter);
         let Reporter { tally, .. } = reporter;
         progress.end();
         self.end(logs, &tally, output)
@@ -134,27 +142,71 @@ impl Task {
     }
 
     fn reply(&self, readied: &Readied) -> Reply {
-        let (mut said, mut found) = (String::new(), 0);
-        for number in self.numbers.clone() {
-            match self.part(readied, number) {
-                Ok(part) => {
-                    said.push_str(&part.text);
-                    found += usize::from(part.is_found);
-                }
-                Err(failure) => {
-                    let reply = self.failed(&readied.input.name, failure);
-                    return Reply { text: said + &reply.text, ..reply };
-                }
-            }
-        }
-        said.push_str(&self.last_line(readied, found));
-        Reply::new(if found > 0 { Standing::Found } else { Standing::Clear }, said)
+        let mut said = String::new();
+        let found = self.say_parts(readied, &mut said);
+        let reply = self.ended(readied, found);
+        Reply { text: said + &reply.text, ..reply }
     }
 
-    fn last_line(&self, readied: &Readied, found: usize) -> String {
-        match self.form {
-            Form::Words => format!("{found} of {} antiscenarios found in {}\n", self.total(), readied.input.name.words()),
-            Form::Plain | Form::Json => String::new(),
+    /// How many of the numbers are found.
+    fn say_parts(&self, readied: &Readied, said: &mut String) -> Answer<u64> {
+        if self.are_none(readied)? {
+            return self.say_none(readied, &mut |text| said.push_str(text)).map(|()| 0);
+        }
+        let mut found = 0;
+        for number in self.numbers.each() {
+            let part = self.part(readied, number)?;
+            said.push_str(&part.text);
+            found += u64::from(part.is_found);
+        }
+        Ok(found)
+    }
+
+    /// Demand 3: where the sheet holds, none of its antiscenarios has a matching. One number is searched sooner than the check is made.
+    fn are_none(&self, readied: &Readied) -> Answer<bool> {
+        if self.numbers.total() == 1 {
+            return Ok(false);
+        }
+        match check(&self.opened.input.bytes, &readied.input.bytes)? {
+            Verdict::Holds => Ok(true),
+            Verdict::Violated { .. } => Ok(false),
+            Verdict::Refused(refusal) => Err(Failure(format!("the check of an accepted log is refused {}", refusal.number()))),
+        }
+    }
+
+    /// What is said of each number where none is found; in words nothing.
+    fn say_none(&self, readied: &Readied, say: &mut impl FnMut(&str)) -> Answer<()> {
+        if self.form == Form::Words {
+            return Ok(());
+        }
+        self.numbers.each().try_for_each(|number| {
+            say(&self.said(readied, number, None)?);
+            Ok(())
+        })
+    }
+
+    /// The reply behind the last number, of which so many are found.
+    fn ended(&self, readied: &Readied, found: Answer<u64>) -> Reply {
+        match found {
+            Err(failure) => self.failed(&readied.input.name, failure),
+            Ok(found) => {
+                let standing = if found > 0 { Standing::Found } else { Standing::Clear };
+                Reply::new(standing, self.last_line(readied, found))
+            }
+        }
+    }
+
+    fn last_line(&self, readied: &Readied, found: u64) -> String {
+        let Numbers { first, last, are_all } = self.numbers;
+        let (total, log) = (self.numbers.total(), readied.input.name.words());
+        match (self.form, are_all) {
+            (Form::Plain | Form::Json, _) => String::new(),
+            (Form::Words, true) if found == 0 => format!("none of the {} is found in {log}\n", count(total, "antiscenario")),
+            (Form::Words, true) => format!("{found} of {total} antiscenarios found in {log}\n"),
+            (Form::Words, false) if found == 0 && first == last => format!("antiscenario {first} is not found in {log}\n"),
+            (Form::Words, false) if first == last => String::new(),
+            (Form::Words, false) if found == 0 => format!("none of the antiscenarios {first} to {last} is found in {log}\n"),
+            (Form::Words, false) => format!("{found} of the antiscenarios {first} to {last} found in {log}\n"),
         }
     }
 
@@ -166,12 +218,15 @@ impl Task {
                 return Err(Failure(format!("searching antiscenario {number} is refused {}", refusal.number())));
             }
         };
-        let text = match self.form {
-            Form::Plain => plain(number, matching.as_deref()),
-            Form::Words => self.in_words(readied, number, matching.as_deref())?,
-            Form::Json => self.object(readied, number, matching.as_deref())?,
-        };
-        Ok(Part { text, is_found: matching.is_some() })
+        Ok(Part { text: self.said(readied, number, matching.as_deref())?, is_found: matching.is_some() })
+    }
+
+    fn said(&self, readied: &Readied, number: u64, matching: Option<&[u32]>) -> Answer<String> {
+        match self.form {
+            Form::Plain => Ok(plain(number, matching)),
+            Form::Words => self.in_words(readied, number, matching),
+            Form::Json => self.object(readied, number, matching),
+        }
     }
 
     /// The rows that introduce the antiscenario's points, one for each position.
@@ -210,7 +265,7 @@ impl Task {
 
 /// A number in the place of a log was once the antiscenario's.
 fn with_hint(name: &Name, sentence: String) -> String {
-    match name.words().bytes().all(|byte| byte.is_ascii_digit()) {
+    match name.words().bytes().all(|byte| byte.is_ascii_digit() || byte == b'-') {
         true => format!("{sentence} (the number of an antiscenario stands behind --number)"),
         false => sentence,
     }
@@ -231,36 +286,41 @@ fn summary(tally: &Tally) -> String {
 struct Parts<'a> {
     output: &'a mut Output,
     progress: &'a Progress,
-    searched: usize,
-    found: usize,
-    failures: Vec<Failure>,
+    searched: u64,
+    found: u64,
+    /// The first.
+    failure: Option<Failure>,
 }
 
 impl Parts<'_> {
-    /// What is said behind the last number.
-    fn end(&mut self, task: &Task, readied: &Readied) -> Reply {
-        if let Some(failure) = self.failures.first() {
-            return task.failed(&readied.input.name, failure.clone());
+    /// How many of so many numbers are found.
+    fn end(self, total: u64) -> Answer<u64> {
+        match self.failure {
+            Some(failure) => Err(failure),
+            None if self.searched != total => Err(Failure(format!("{} of {total} numbers were searched", self.searched))),
+            None => Ok(self.found),
         }
-        if self.searched != task.total() {
-            let failure = Failure(format!("{} of {} numbers were searched", self.searched, task.total()));
-            return task.failed(&readied.input.name, failure);
-        }
-        let standing = if self.found > 0 { Standing::Found } else { Standing::Clear };
-        Reply::new(standing, task.last_line(readied, self.found))
     }
 }
 
 impl Taker<Answer<Part>> for Parts<'_> {
+    /// What is found is written at once, so that it stands there when the search is ended.
     fn take(&mut self, part: Answer<Part>) {
         match part {
-            Ok(part) => {
-                self.progress.wipe();
-                self.output.say(&part.text);
+            Ok(Part { text, is_found }) => {
+                if !text.is_empty() {
+                    self.progress.wipe();
+                    self.output.say(&text);
+                }
+                if is_found {
+                    self.output.flush();
+                }
                 self.searched += 1;
-                self.found += usize::from(part.is_found);
+                self.found += u64::from(is_found);
             }
-            Err(failure) => self.failures.push(failure),
+            Err(failure) => {
+                self.failure.get_or_insert(failure);
+            }
         }
     }
 

@@ -7,7 +7,7 @@ const DONE: u32 = 0;
 const MALFORMED: u32 = 1;
 const VIOLATED: u32 = 100;
 
-/// Document 01's refusals.
+/// Document 01's refusals, without 11, which document 02, A4, takes back.
 #[derive(Clone, Copy, Debug, PartialEq, Eq)]
 #[repr(u32)]
 pub enum Refusal {
@@ -21,7 +21,6 @@ pub enum Refusal {
     PointQ = 8,
     Fields = 9,
     SectionTooLong = 10,
-    TooManyAntiscenarios = 11,
     LogFirstLine = 21,
     LineCount = 22,
     LogLength = 23,
@@ -36,7 +35,7 @@ pub enum Refusal {
 }
 
 /// Every refusal, in the order of their numbers.
-pub const REFUSALS: [Refusal; 22] = [
+pub const REFUSALS: [Refusal; 21] = [
     Refusal::SheetFirstLine,
     Refusal::SheetCounts,
     Refusal::SheetLength,
@@ -47,7 +46,6 @@ pub const REFUSALS: [Refusal; 22] = [
     Refusal::PointQ,
     Refusal::Fields,
     Refusal::SectionTooLong,
-    Refusal::TooManyAntiscenarios,
     Refusal::LogFirstLine,
     Refusal::LineCount,
     Refusal::LogLength,

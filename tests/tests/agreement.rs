@@ -3,8 +3,9 @@ mod common;
 use common::{random_pairs, tallied, tell_tally};
 use satskhubo_tests::compare::{compare, compare_once, Tally};
 use satskhubo_tests::generate::logs::{log_of, of_length};
+use satskhubo_tests::generate::pairs::large_pair_of;
 use satskhubo_tests::generate::sheets::{self, largest};
-use satskhubo_tests::generate::targeted::with_denials;
+use satskhubo_tests::generate::targeted::{all_before, fullest, with_denials};
 use satskhubo_tests::generate::{families, Pair};
 use satskhubo_tests::host::Host;
 use satskhubo_tests::random::Random;
@@ -56,7 +57,7 @@ fn longer_logs() {
     tell_tally("agreement: longer logs", tally);
 }
 
-/// 58 points and 98 rows, and N = 4,096, each with all its numbers.
+/// 58 points and 98 rows, and N = 4,096, each with all its numbers; N = 5,120 and 48^6 with some.
 #[test]
 fn the_largest_sheets() {
     let logs = [&[][..], &[(1, 3)], &[(1, 3), (2, 1), (3, 3)], &[(1, 3), (2, 1), (2, 1), (3, 3)]];
@@ -65,8 +66,19 @@ fn the_largest_sheets() {
         for sheet in [largest(), with_denials([4; 6])] {
             tally += tallied(compare(&Host, &Pair { sheet, log: log.clone() }, 0, 4096));
         }
+        for sheet in [with_denials([4, 4, 4, 4, 4, 5]), all_before(), fullest()] {
+            tally += tallied(compare(&Host, &Pair { sheet, log: log.clone() }, 0, 40));
+        }
     }
     tell_tally("agreement: largest sheets", tally);
+}
+
+/// Document 02, A4: N up to 48^6, with a sample of the numbers, and demand 3 by placements.
+#[test]
+fn large_sheets_at_random() {
+    let tally: Tally = (0..1500).map(|seed| tallied(compare(&Host, &large_pair_of(seed), seed, 8))).sum();
+    assert_eq!(tally.whole, tally.pairs);
+    tell_tally("agreement: large sheets", tally);
 }
 
 #[test]

@@ -93,7 +93,8 @@ fn one_scan_for_two_points() {
 #[test]
 fn counts_and_refusals() {
     assert_eq!(Host.read_sheet(&with_denials([4; 6])).count, 4096);
-    assert_eq!(Host.read_sheet(&with_denials([4, 4, 4, 4, 5, 4])).answer, 11);
+    // Document 02, A4: it was refused.
+    assert_eq!(Host.read_sheet(&with_denials([4, 4, 4, 4, 5, 4])).count, 5120);
     assert_eq!(Host.read_sheet(b"  7  0\n").answer, 2);
     assert_eq!(Host.read_log(&log_of(&vec![(0, 1); 4001]).text()).answer, 22);
     let mut log: Log = log_of(&[(1, 1)]);

@@ -2,7 +2,7 @@
 //! what the small family has.
 use satskhubo_tests::generate::arguments::{arguments_of, Arguments};
 use satskhubo_tests::generate::families;
-use satskhubo_tests::generate::pairs::pair_of;
+use satskhubo_tests::generate::pairs::{large_pair_of, pair_of};
 use satskhubo_tests::reference::antiscenario::antiscenario;
 use satskhubo_tests::reference::blunder::Blunder;
 use satskhubo_tests::reference::log::Log;
@@ -117,6 +117,35 @@ fn the_small_family_has_every_kind() {
     are_reached(&reached, &[kinds_in(0..=1), kinds_with_ends(), vec!["EVENT with no event".into()]].concat());
 }
 
+/// Document 02, A4: far more than 4,096 antiscenarios, more than 32 bits can count among them, and logs that keep the sheet and that break it.
+#[test]
+fn large_pairs_reach_large_counts() {
+    let mut reached = Reached::new();
+    for seed in 0..1000 {
+        let pair = large_pair_of(seed);
+        let opened = open(&pair.sheet, &pair.log, Blunder::None);
+        let size = match opened.read_sheet().expect("a large sheet is accepted") {
+            0 => "none",
+            1..=4096 => "few",
+            4097..=4_294_967_296 => "many",
+            _ => "more than 32 bits",
+        };
+        let (sheet, log) = (opened.sheet.as_ref().unwrap(), opened.log.as_ref().unwrap());
+        let matched = weeded::smallest(&sheet.section(0), log).is_some();
+        let verdict = match opened.check() {
+            Ok(Verdict::Holds) if matched => "holds by its consequents",
+            Ok(Verdict::Holds) => "holds",
+            Ok(Verdict::Violated { .. }) => "violated",
+            Err(refusal) => panic!("accepted and refused with {refusal:?}"),
+        };
+        count(&mut reached, format!("{size}, {verdict}"));
+    }
+    let verdicts = ["holds", "holds by its consequents", "violated"];
+    let wanted = ["many", "more than 32 bits"].iter().flat_map(|size| verdicts.map(|verdict| format!("{size}, {verdict}")));
+    are_reached(&reached, &wanted.collect::<Vec<_>>());
+    writeln!(std::io::stderr(), "of 1000 large pairs: {reached:?}").unwrap();
+}
+
 #[test]
 fn random_pairs_reach_everything() {
     let mut reached = Reached::new();
@@ -124,7 +153,7 @@ fn random_pairs_reach_everything() {
     let mut wanted: Vec<String> = (0..=6).map(|k| format!("k {k}")).collect();
     wanted.extend((0..=4).map(|points| format!("{points} antecedent points")));
     wanted.extend((0..=6).map(|n| format!("n {n}")));
-    let refusals: Vec<String> = (1..=11).chain(21..=27).chain(31..=34).map(|refusal| format!("refusal {refusal}")).collect();
+    let refusals: Vec<String> = (1..=10).chain(21..=27).chain(31..=34).map(|refusal| format!("refusal {refusal}")).collect();
     wanted.extend(refusals.clone());
     wanted.extend([kinds_in(0..=6), kinds_with_ends()].concat());
     wanted.extend(["EVENT with no event", "a consequent skipped", "a consequent empty", "positions shared"].map(String::from));

@@ -1,8 +1,16 @@
 //! The yardstick of the benchmarks answers as the reference does.
 mod common;
+use satskhubo_tests::compare::compare;
+use satskhubo_tests::generate::pairs::large_pair_of;
 use satskhubo_tests::plain::Plain;
 
 #[test]
 fn plain_rust_answers_as_the_reference() {
     common::tell_tally("plain", common::random_pairs(&Plain, 5000, 1500));
+}
+
+#[test]
+fn plain_rust_answers_as_the_reference_on_large_sheets() {
+    let tally = (5000..5300).map(|seed| common::tallied(compare(&Plain, &large_pair_of(seed), seed, 6))).sum();
+    common::tell_tally("plain: large sheets", tally);
 }

@@ -3,8 +3,9 @@ mod common;
 use common::program::{file, opened, plain_check, run};
 use common::words::{asked, found, KINDS};
 use common::{scratch, tell};
+use satskhubo_tests::generate::pairs::large_pair_of;
 use satskhubo_tests::generate::sheets::{self, sheet_s};
-use satskhubo_tests::generate::{damage, logs, targeted};
+use satskhubo_tests::generate::{damage, logs, targeted, Pair};
 use satskhubo_tests::json::{self, Json};
 use satskhubo_tests::random::Random;
 use satskhubo_tests::reference::antiscenario::antiscenario;
@@ -13,6 +14,7 @@ use satskhubo_tests::reference::log::{self, Log};
 use satskhubo_tests::reference::operations::{Opened, Verdict, MOST_POINTS};
 use satskhubo_tests::reference::rows::points;
 use satskhubo_tests::reference::sheet::{self, kind::*};
+use std::ops::RangeInclusive;
 use std::path::Path;
 
 /// Logs by name, in the order of their names: random ones, some damaged, and those made for each refusal.
@@ -158,11 +160,13 @@ fn says_the_search(object: &Json, opened: &Opened, number: u64) -> bool {
     matching.is_some()
 }
 
-/// All numbers of a sheet, written and searched in each log.
-fn searches_alike(sheet_name: &str, sheet: &[u8], logs: &[(String, Vec<u8>)]) -> u64 {
+/// All numbers of a sheet, or those from the first to the last, searched in each log.
+fn searches_alike(sheet_name: &str, sheet: &[u8], logs: &[(String, Vec<u8>)], some: Option<RangeInclusive<u64>>) -> u64 {
     let all: Vec<Opened> = logs.iter().map(|(_, log)| opened(sheet, log)).collect();
-    let count = all[0].read_sheet().unwrap();
+    let numbers = some.clone().unwrap_or(1..=all[0].read_sheet().unwrap());
+    let by_option = format!("--number={}-{}", numbers.start(), numbers.end());
     let mut words = vec!["search", "--json", sheet_name];
+    words.extend(some.map(|_| by_option.as_str()));
     words.extend(logs.iter().map(|(name, _)| name.as_str()));
     let in_json = run(&words).answer();
     words[1] = "--plain";
@@ -176,7 +180,7 @@ fn searches_alike(sheet_name: &str, sheet: &[u8], logs: &[(String, Vec<u8>)]) ->
             columns += &format!("{:3}\n", refusal.number());
             continue;
         }
-        for number in 1..=count {
+        for number in numbers.clone() {
             assert_eq!(objects[next].get("file").text(), name);
             let hit = says_the_search(&objects[next], opened, number);
             (next, status) = (next + 1, status.max(hit.into()));
@@ -190,16 +194,21 @@ fn searches_alike(sheet_name: &str, sheet: &[u8], logs: &[(String, Vec<u8>)]) ->
     next as u64
 }
 
-fn writes_alike(sheet_name: &str, sheet: &[u8]) -> u64 {
+fn writes_alike(sheet_name: &str, sheet: &[u8], some: Option<RangeInclusive<u64>>) -> u64 {
     let opened = opened(sheet, b"");
     let count = opened.read_sheet().unwrap();
-    let texts: Vec<Vec<u8>> = (1..=count).map(|number| opened.write(number, 3437).unwrap()).collect();
-    let (status, plain) = run(&["antiscenarios", "--plain", sheet_name]).answer();
+    let numbers = some.clone().unwrap_or(1..=count);
+    let by_name = format!("{}-{}", numbers.start(), numbers.end());
+    let mut words = vec!["antiscenarios", "--plain", sheet_name];
+    words.extend(some.map(|_| by_name.as_str()));
+    let texts: Vec<Vec<u8>> = numbers.clone().map(|number| opened.write(number, 3437).unwrap()).collect();
+    let (status, plain) = run(&words).answer();
     assert_eq!((status, plain.as_bytes()), (0, &texts.concat()[..]));
-    let (status, in_json) = run(&["antiscenarios", "--json", sheet_name]).answer();
+    words[1] = "--json";
+    let (status, in_json) = run(&words).answer();
     let objects = json::lines(&in_json);
-    assert_eq!((status, objects.len() as u64), (0, count));
-    for ((number, text), object) in (1..).zip(&texts).zip(&objects) {
+    assert_eq!((status, objects.len()), (0, texts.len()));
+    for ((number, text), object) in numbers.zip(&texts).zip(&objects) {
         assert_eq!((object.get("number").number(), object.get("of").number()), (number, count));
         assert_eq!(object.get("text").text().as_bytes(), text);
         let rows = antiscenario(opened.sheet.as_ref().unwrap(), number);
@@ -210,7 +219,7 @@ fn writes_alike(sheet_name: &str, sheet: &[u8]) -> u64 {
             assert_eq!((said.get("kind").text(), said.get("words").text()), (KINDS[row.kind as usize], asked(row).as_str()));
         }
     }
-    count
+    texts.len() as u64
 }
 
 #[test]
@@ -223,8 +232,32 @@ fn searches_and_antiscenarios_of_random_sheets() {
         let text = random_sheet(&mut random, 4 * round + round % 2);
         if sheet::read(&text, Blunder::None).is_ok_and(|sheet| sheet.count <= 200) {
             let name = file(&folder, "sheet", &text);
-            comparisons += searches_alike(&name, &text, &logs) + writes_alike(&name, &text);
+            comparisons += searches_alike(&name, &text, &logs, None) + writes_alike(&name, &text, None);
         }
     }
     tell("program: searches and antiscenarios", comparisons);
+}
+
+/// Document 02, A4: of more than 4,096 numbers, some; at the front, at the end, and anywhere between, past 32 bits too.
+#[test]
+fn ranges_of_large_sheets() {
+    let folder = scratch("ranges");
+    let mut random = Random::new(76);
+    let (mut comparisons, mut most) = (0, 0);
+    for seed in 0..60 {
+        let Pair { sheet: text, log } = large_pair_of(seed);
+        let count = sheet::read(&text, Blunder::None).unwrap().count;
+        if count <= 4096 {
+            continue;
+        }
+        most = most.max(count);
+        let (name, logs) = (file(&folder, "sheet", &text), [(file(&folder, "log", &log), log)]);
+        let first = [1, count - 9, random.next() % (count - 9) + 1][seed as usize % 3];
+        let some = Some(first..=first + 9);
+        comparisons += searches_alike(&name, &text, &logs, some.clone()) + writes_alike(&name, &text, some);
+        let whole = run(&["search", &name, &logs[0].0, "--json"]).complaint();
+        assert!(whole.contains(&format!("{count} antiscenarios")) && whole.contains("--number FIRST-LAST"), "{whole}");
+    }
+    assert!(comparisons > 400 && most > u64::from(u32::MAX), "{comparisons} comparisons, N up to {most}");
+    tell("program: ranges of large sheets", comparisons);
 }

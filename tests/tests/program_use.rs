@@ -86,8 +86,19 @@ fn help_and_version() {
 /// A number is taken whole or refused: one that is not in 1 to N with 31, anything else as no number.
 #[test]
 fn numbers_are_taken_whole() {
-    let over = ["0", "5", "4294967297", "18446744073709551615"];
+    let over = ["0", "5", "4294967297", "18446744073709551615", "0-1", "1-5", "2-4294967298", "5-6", "1-18446744073709551615"];
     let none = [
+        "2-1",
+        "1-",
+        "-",
+        "1--2",
+        "1-2-3",
+        "01-2",
+        "1-02",
+        "1 - 2",
+        "1-18446744073709551616",
+        "1-two",
+        "1..2",
         "00",
         "02",
         "002",
@@ -118,14 +129,13 @@ fn numbers_are_taken_whole() {
             let said = run(words);
             assert_eq!(said.status, 2, "{words:?}: {said:?}");
             let all = format!("{}{}", said.out, said.err);
-            assert!(
-                !all.contains("antiscenarios found") && !all.contains("\"found\":") && !all.is_empty(),
-                "{words:?}: {said:?}"
-            );
+            assert!(!all.contains("found in") && !all.contains("\"found\":") && !all.is_empty(), "{words:?}: {said:?}");
             assert_eq!(all.contains("31"), over.contains(&number), "{words:?}: {said:?}");
         }
     }
     assert_eq!(run(&["search", SHEET, LOG, "--number", "2"]).status, 1);
+    assert_eq!(run(&["search", SHEET, LOG, "--number", "1-2"]).status, 1);
+    assert_eq!(run(&["search", SHEET, LOG, "--number", "3-4"]).status, 0);
     assert_eq!(run(&["search", SHEET, LOG, "--number", "1"]).status, 0);
 }
 

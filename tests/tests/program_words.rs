@@ -142,7 +142,7 @@ fn sheets_of_a_hundred_rows() {
     assert!(status == 0 && text.starts_with("holds: ") && text.lines().count() == 1, "{text}");
 }
 
-/// 176 rows are always too many antiscenarios, and 177 are not read.
+/// 176 rows are accepted, and 177 are not read.
 #[test]
 fn sheets_of_176_rows() {
     let folder = scratch("words-full");
@@ -151,7 +151,9 @@ fn sheets_of_176_rows() {
     full.extend((1..=6).flat_map(|section| [[section, EVENT, 1, 0, 8, 0]; 24]));
     let name = file(&folder, "full", &sheet_of(6, &full));
     let (status, text) = run(&["check", &name, LOG]).answer();
-    assert!(status == 2 && text.starts_with("refused 11: ") && text.contains("191102976") && text.lines().count() == 3, "{text}");
+    assert!(status == 0 && text.starts_with("holds: ") && text.lines().count() == 1, "{text}");
+    let (status, text) = run(&["explain", &name]).answer();
+    assert!(status == 0 && text.contains("176 rows, N = 191102976 antiscenarios\n"), "{text}");
     full.push([6, EVENT, 1, 0, 8, 0]);
     let name = file(&folder, "over", &sheet_of(6, &full));
     let (status, text) = run(&["check", &name, LOG]).answer();
@@ -290,5 +292,5 @@ fn antiscenarios_and_searches() {
 ";
     assert_eq!(run(&["search", SHEET, LOG]).answer(), (1, found.to_string()));
     let (status, none) = run(&["search", SHEET, KEPT]).answer();
-    assert_eq!((status, none.as_str()), (0, "0 of 4 antiscenarios found in examples/lockmass/log-kept\n"));
+    assert_eq!((status, none.as_str()), (0, "none of the 4 antiscenarios is found in examples/lockmass/log-kept\n"));
 }

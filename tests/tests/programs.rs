@@ -1,6 +1,6 @@
 //! Document 01's program, target/bin/satskhubo: its columns, and that the people's program gives the same with --plain.
 mod common;
-use common::program::{run, INJECTION, KEPT, LOG, SHEET};
+use common::program::{run, INJECTION, KEPT, LOG, SHEET, SUPPLIER};
 use common::{said, scratch, top};
 use std::process::Command;
 
@@ -24,7 +24,7 @@ fn it_reads_the_files_of_its_folder() {
 fn it_says_what_the_peoples_program_says() {
     let refused = |name: &str| format!("examples/refused/{name}");
     let sheets =
-        [SHEET.to_string(), LOG.to_string()].into_iter().chain((1..=11).map(|number| refused(&format!("sheet-{number}"))));
+        [SHEET, LOG, SUPPLIER].map(String::from).into_iter().chain((1..=10).map(|number| refused(&format!("sheet-{number}"))));
     let logs: Vec<String> = [LOG, KEPT, INJECTION, SHEET]
         .map(String::from)
         .into_iter()

@@ -8,7 +8,7 @@ use satskhubo_tests::generate::targeted::faults::{faulty_log, faulty_sheet, PLAC
 use satskhubo_tests::generate::targeted::{self, Case};
 use satskhubo_tests::generate::{damage, logs, Pair};
 use satskhubo_tests::host::Host;
-use satskhubo_tests::outcome::{Shown, Side};
+use satskhubo_tests::outcome::{SheetRead, Shown, Side};
 use satskhubo_tests::random::Random;
 use satskhubo_tests::reference::sheet::{self, Row};
 
@@ -49,15 +49,25 @@ fn every_reading_refusal_is_reached() {
     let mut reached: Vec<u32> = targeted::sheets().iter().chain(&targeted::logs()).map(|case| case.answer).collect();
     reached.sort();
     reached.dedup();
-    let all: Vec<u32> = [0].into_iter().chain(1..=11).chain(21..=27).collect();
+    let all: Vec<u32> = [0].into_iter().chain(1..=10).chain(21..=27).collect();
     assert_eq!(reached, all);
+}
+
+/// Document 02, A4: no N is refused, and each is what its factors multiply to.
+#[test]
+fn sheets_of_every_count() {
+    let sheets = targeted::counted();
+    for (sheet, count) in &sheets {
+        assert_eq!(Host.read_sheet(sheet), SheetRead { answer: 0, count: *count });
+    }
+    tell("reading: counts", sheets.len() as u64);
 }
 
 #[test]
 fn two_faults_in_both_orders() {
     let mut comparisons = 0;
     for (first, second) in PLACES.iter().flat_map(|x| PLACES.iter().map(move |y| (*x, *y))) {
-        for (x, y) in (1..=11).flat_map(|x| (1..=11).map(move |y| (x, y))) {
+        for (x, y) in (1..=10).flat_map(|x| (1..=10).map(move |y| (x, y))) {
             comparisons += answers(&faulty_sheet(&[(x, first), (y, second)]), false);
         }
         for (x, y) in (21..=27).flat_map(|x| (21..=27).map(move |y| (x, y))) {
@@ -70,7 +80,7 @@ fn two_faults_in_both_orders() {
 #[test]
 fn the_sheets_refusals_come_before_the_logs() {
     let mut comparisons = 0;
-    for (x, y) in (1..=11).flat_map(|x| (21..=27).map(move |y| (x, y))) {
+    for (x, y) in (1..=10).flat_map(|x| (21..=27).map(move |y| (x, y))) {
         let pair = Pair { sheet: faulty_sheet(&[(x, PLACES[0])]).text, log: faulty_log(&[(y, PLACES[1])]).text };
         assert_eq!(Host.check_number(&pair.sheet, &pair.log), x);
         comparisons += 1 + counted(compare(&Host, &pair, 0, 4));

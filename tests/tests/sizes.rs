@@ -15,7 +15,7 @@ use std::process::Command;
 const SHEET: usize = 6167;
 const LOG: usize = 60028;
 
-/// 176 rows: the sections are full, so that it has more than 4,096 antiscenarios and is refused with 11, last of all.
+/// 176 rows: every section is full. Two points on one line break every row of the consequents.
 fn full_sheet() -> Vec<u8> {
     let mut rows = vec![Row::new(0, 1, 1, 0, 8, 0), Row::new(0, 1, 2, 0, 8, 0)];
     rows.extend([Row::new(0, 8, 1, 2, 0, 0); 30]);
@@ -46,8 +46,8 @@ fn program(folder: &Path, sheet: &[u8], log: &[u8]) -> String {
 fn sheets() {
     let folder = scratch("long-sheets");
     let (full, log) = (full_sheet(), uniform(3, 3).text());
-    assert_eq!((full.len(), Host.read_sheet(&full).answer), (SHEET, 11));
-    assert_eq!(program(&folder, &full, &log), " 11  0\n");
+    assert_eq!((full.len(), Host.read_sheet(&full).count), (SHEET, 191_102_976));
+    assert_eq!(program(&folder, &full, &log), "  0  1\n    1    1\n  33  57  81 105 129 153\n");
     for further in further(35) {
         let sheet = longer(&full, 35, further);
         assert_eq!(Host.read_sheet(&sheet).answer, 3, "{further} bytes more");

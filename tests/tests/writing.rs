@@ -3,6 +3,7 @@ mod common;
 use common::tell;
 use satskhubo_tests::compare::{Comparison, Mismatch};
 use satskhubo_tests::generate::sheets::{self, largest, sheet_s};
+use satskhubo_tests::generate::targeted::faults::{faulty_sheet, Place};
 use satskhubo_tests::generate::targeted::with_denials;
 use satskhubo_tests::generate::Pair;
 use satskhubo_tests::host::Host;
@@ -43,8 +44,9 @@ fn all_numbers_of_a_full_sheet() {
 
 #[test]
 fn refused_sheets_write_nothing() {
-    let comparisons =
-        writes_alike(b"  7  0\n".to_vec(), 3) + writes_alike(with_denials([5, 4, 4, 4, 4, 4]), 3) + writes_alike(vec![], 3);
+    let comparisons = writes_alike(b"  7  0\n".to_vec(), 3)
+        + writes_alike(faulty_sheet(&[(10, Place::Late)]).text, 3)
+        + writes_alike(vec![], 3);
     tell("writing: refused", comparisons);
 }
 

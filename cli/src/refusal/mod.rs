@@ -52,7 +52,6 @@ impl<'a> Refused<'a> {
             Refusal::SheetFirstLine
             | Refusal::SheetCounts
             | Refusal::SheetLength
-            | Refusal::TooManyAntiscenarios
             | Refusal::LogFirstLine
             | Refusal::LineCount
             | Refusal::LogLength
@@ -82,7 +81,6 @@ impl<'a> Refused<'a> {
             (Refusal::PointQ, index) => rows::point_q(bytes, index),
             (Refusal::Fields, index) => rows::fields(bytes, index),
             (Refusal::SectionTooLong, index) => rows::too_long(bytes, index),
-            (Refusal::TooManyAntiscenarios, _) => rows::too_many(bytes),
             (Refusal::LogFirstLine, _) => fields::log_first_line(bytes),
             (Refusal::LineCount, _) => fields::line_count(bytes),
             (Refusal::LogLength, _) => lengths::of_log(self.text),

@@ -1,6 +1,5 @@
-//! Rows of a sheet that are well formed and yet refused: 5 to 11.
+//! Rows of a sheet that are well formed and yet refused: 5 to 10.
 use crate::columns::{fields as fields_of, lines, ROW, SHEET_FIRST};
-use crate::denial;
 use crate::sheet::{Kind, Row, CLOSE, START};
 use crate::words::count;
 use satskhubo_interface::answer::Answer;
@@ -169,19 +168,4 @@ pub fn too_long(sheet: &[u8], index: usize) -> Answer<Vec<String>> {
             section => format!("section {section} has more than the 24 rows that a consequent may have"),
         })
     })
-}
-
-/// The denials of each consequent, whose product is too large.
-pub fn too_many(sheet: &[u8]) -> Answer<Vec<String>> {
-    let Some([consequents, _]) = fields_of(sheet, &SHEET_FIRST)? else { return Ok(Vec::new()) };
-    let mut denials = vec![0u64; consequents as usize + 1];
-    for line in lines(sheet, &SHEET_FIRST, &ROW) {
-        let Some(row) = fields_of(line, &ROW)?.and_then(Row::of) else { return Ok(Vec::new()) };
-        let Some(count) = denials.get_mut(row.section as usize) else { return Ok(Vec::new()) };
-        *count += denial::count(&row);
-    }
-    let counts: Vec<String> = denials[1..].iter().map(u64::to_string).collect();
-    let product: u64 = denials[1..].iter().product();
-    let counts = counts.join(" × ");
-    Ok(vec![format!("the sheet has {product} antiscenarios, and 4,096 are allowed; its consequents' denials multiply: {counts}")])
 }

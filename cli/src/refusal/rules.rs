@@ -17,7 +17,6 @@ pub fn rule(refusal: Refusal) -> &'static str {
         Refusal::PointQ => "q, or a in kinds 4 and 5, is not a point that may be used here, or not a different one",
         Refusal::Fields => "a field that the kind does not use is not 0, a set is empty, or a is above b",
         Refusal::SectionTooLong => "the section is too long: 32 rows for the antecedent, 24 for a consequent",
-        Refusal::TooManyAntiscenarios => "the sheet has more than 4,096 antiscenarios",
         Refusal::LogFirstLine => {
             "the first line is short or malformed: line count (5 columns), start (11) and close (11), then a line feed"
         }

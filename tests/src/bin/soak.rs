@@ -1,7 +1,7 @@
 //! Comparisons for as long as asked: soak SECONDS [SEED] with random pairs, soak families [PART of PARTS] with the larger families.
 use satskhubo_tests::compare::{compare, compare_long, compare_once, Mismatch, Tally};
 use satskhubo_tests::generate::families::{self, Family};
-use satskhubo_tests::generate::pairs::{long_pair_of, pair_of};
+use satskhubo_tests::generate::pairs::{large_pair_of, long_pair_of, pair_of};
 use satskhubo_tests::generate::{logs, sheets, Pair};
 use satskhubo_tests::host::Host;
 use satskhubo_tests::random::Random;
@@ -71,7 +71,7 @@ impl Soak {
         Soak { family_sheets, family_logs: family_logs() }
     }
 
-    /// Mostly the seed's own pair; else one of the families, or one with a longer log.
+    /// Mostly the seed's own pair; else one of the families, one with a longer log, or one with a large sheet.
     fn compare(&self, seed: u64) -> Result<Tally, Mismatch> {
         let mut random = Random::new(!seed);
         match random.below(100) {
@@ -86,6 +86,7 @@ impl Soak {
                 compare(&Host, &Pair { sheet, log: logs::of_length(&mut random, n).text() }, seed, 12)
             }
             29 => compare_long(&Host, &long_pair_of(seed), seed),
+            30..=39 => compare(&Host, &large_pair_of(seed), seed, 12),
             _ => compare(&Host, &pair_of(seed), seed, 12),
         }
     }

@@ -1,5 +1,5 @@
 //! Demand 3 on one pair: by the reference and the side's searches and check, or by the side's own answers alone.
-use super::{Compared, Comparison, Mismatch};
+use super::{Compared, Comparison, Mismatch, MOST_EACH, SAMPLE};
 use crate::expected::VIOLATED;
 use crate::outcome::{Side, GUARD};
 use crate::reference::antiscenario::antiscenario;
@@ -25,26 +25,66 @@ impl<S: Side> Comparison<'_, S> {
     /// What the matchings of all numbers are cut down to, of which the side's search finds the smallest of each number's.
     fn cut_down(&mut self, sheet: &Sheet, log: &Log) -> Result<Vec<Vec<u32>>, Mismatch> {
         let mut cut_down = CutDown::new(sheet, log);
-        let mut reached = vec![false; cut_down.fronts.len()];
-        for number in 1..=sheet.count {
-            let cut = cut_down.of(&antiscenario(sheet, number));
-            let smallest = cut.iter().position(|&is_cut| is_cut).map(|index| cut_down.fronts[index].clone());
-            let searched = self.found(number);
-            self.same(format_args!("demand 3: the search of number {number}"), searched, (0, smallest))?;
-            reached.iter_mut().zip(cut).for_each(|(reached, is_cut)| *reached |= is_cut);
-        }
+        let reached = match sheet.count <= MOST_EACH {
+            true => self.by_numbers(sheet, &mut cut_down)?,
+            false => self.by_placements(sheet, &mut cut_down)?,
+        };
         Ok(cut_down.fronts.into_iter().zip(reached).filter_map(|(front, reached)| reached.then_some(front)).collect())
     }
 
-    /// Demand 3 from this side's own answers: the smallest that its searches of all its numbers find is what its check gives.
+    /// The fronts that some number's matchings are cut down to, number by number.
+    fn by_numbers(&mut self, sheet: &Sheet, cut_down: &mut CutDown) -> Result<Vec<bool>, Mismatch> {
+        let mut reached = vec![false; cut_down.fronts.len()];
+        for number in 1..=sheet.count {
+            let cut = self.search_of(sheet, cut_down, number)?;
+            reached.iter_mut().zip(cut).for_each(|(reached, is_cut)| *reached |= is_cut);
+        }
+        Ok(reached)
+    }
+
+    /// The same, placement by placement, for any N: the number by which a front is reached is searched for some of them, and so is a sample.
+    fn by_placements(&mut self, sheet: &Sheet, cut_down: &mut CutDown) -> Result<Vec<bool>, Mismatch> {
+        let numbers = cut_down.reaching(sheet);
+        let reaching = numbers.iter().flatten().copied().take(SAMPLE as usize).collect::<Vec<u64>>();
+        let sample = self.numbers(SAMPLE).into_iter().filter(|number| (1..=sheet.count).contains(number));
+        for number in reaching.into_iter().chain(sample.collect::<Vec<u64>>()) {
+            let cut = self.search_of(sheet, cut_down, number)?;
+            let inside = cut.iter().zip(&numbers).all(|(is_cut, reaching)| !is_cut || reaching.is_some());
+            self.same(format_args!("demand 3: number {number} is cut down to what is reached"), inside, true)?;
+        }
+        for (index, number) in numbers.iter().enumerate() {
+            let by_it = number.is_none_or(|number| cut_down.of(&antiscenario(sheet, number))[index]);
+            self.same("demand 3: the number that reaches a front", by_it, true)?;
+        }
+        Ok(numbers.iter().map(Option::is_some).collect())
+    }
+
+    /// The fronts that a number's matchings are cut down to, of which the side's search finds the smallest.
+    fn search_of(&mut self, sheet: &Sheet, cut_down: &mut CutDown, number: u64) -> Result<Vec<bool>, Mismatch> {
+        let cut = cut_down.of(&antiscenario(sheet, number));
+        let smallest = cut.iter().position(|&is_cut| is_cut).map(|index| cut_down.fronts[index].clone());
+        let searched = self.found(number);
+        self.same(format_args!("demand 3: the search of number {number}"), searched, (0, smallest))?;
+        Ok(cut)
+    }
+
+    /// Demand 3 from this side's own answers: the smallest that its searches of all its numbers find is what its check gives. Of many numbers a
+    /// sample, which finds nothing smaller.
     pub fn demand_3_alone(&mut self) -> Compared {
         if self.opened.sheet.is_err() || self.opened.log.is_err() {
             return Ok(());
         }
-        let count = self.side.read_sheet(&self.pair.sheet).count;
-        let smallest = (1..=count).filter_map(|number| self.found(number).1).min();
-        let given = self.given();
-        self.same("demand 3: the check and the searches of this side", given, smallest)
+        let (count, given) = (self.side.read_sheet(&self.pair.sheet).count, self.given());
+        if count <= MOST_EACH {
+            let smallest = (1..=count).filter_map(|number| self.found(number).1).min();
+            return self.same("demand 3: the check and the searches of this side", given, smallest);
+        }
+        for number in self.numbers(SAMPLE) {
+            let found = self.found(number).1;
+            let is_due = found.is_none() || given.is_some() && found >= given;
+            self.same(format_args!("demand 3: the check and the search of number {number} of this side"), is_due, true)?;
+        }
+        Ok(())
     }
 
     fn antecedent_points(&self) -> usize {

@@ -16,8 +16,12 @@ use crate::reference::sheet::Row;
 use std::fmt::{Debug, Display};
 pub use tally::Tally;
 
-/// So many placements of a pair's antiscenarios are all judged.
+/// So many placements of a pair's antiscenarios are all judged, of at most so many antiscenarios.
 const MOST_JUDGED: u64 = 400;
+
+/// Up to so many numbers of a sheet are all gone through; of more, a sample.
+const MOST_EACH: u64 = 4096;
+const SAMPLE: u64 = 12;
 
 /// What differed, with all that is needed to see it again.
 #[derive(Debug)]
@@ -70,15 +74,15 @@ impl<'a, S: Side> Comparison<'a, S> {
         self.same("check", self.side.check(sheet, log), expected)
     }
 
-    /// Every number if there are few, else the first, the last and a sample; and the nearest ones outside.
+    /// Every number if there are few, else the first two, the last two and a sample; and the nearest ones outside.
     pub fn numbers(&mut self, most: u64) -> Vec<u64> {
         let count = self.opened.read_sheet().unwrap_or(0);
         let mut numbers = vec![0, count + 1, (1 << 32) + 1, u64::MAX];
         if count <= most {
             numbers.extend(1..=count);
         } else {
-            numbers.extend([1, count]);
-            numbers.extend((2..most).map(|_| self.random.next() % count + 1));
+            numbers.extend([1, 2, count - 1, count]);
+            numbers.extend((4..most).map(|_| self.random.next() % count + 1));
         }
         numbers
     }
@@ -157,7 +161,7 @@ impl<'a, S: Side> Comparison<'a, S> {
         let (Ok(sheet), Ok(log)) = (&self.opened.sheet, &self.opened.log) else { return Ok(()) };
         let (sheet, log) = (sheet.clone(), log.clone());
         let mut left = MOST_JUDGED;
-        for number in 1..=sheet.count {
+        for number in 1..=sheet.count.min(MOST_JUDGED) {
             let rows = antiscenario(&sheet, number);
             let count = placement_count(&log, points(&rows).len(), MOST_JUDGED + 1);
             if count > left {
@@ -199,11 +203,19 @@ impl<'a, S: Side> Comparison<'a, S> {
         self.judging_all()
     }
 
+    /// Each number and the nearest ones outside, or of many a sample.
+    fn each_number(&mut self) -> Vec<u64> {
+        match self.opened.read_sheet().unwrap_or(0) {
+            count if count <= MOST_EACH => (0..=count + 1).collect(),
+            _ => self.numbers(SAMPLE),
+        }
+    }
+
     /// Every operation once for each number and the nearest ones outside, in memory of the right size.
     pub fn each_operation_once(&mut self) -> Compared {
         self.readings()?;
         self.checks()?;
-        for number in 0..=self.opened.read_sheet().unwrap_or(0) + 1 {
+        for number in self.each_number() {
             let points = self.point_count(number);
             self.write_in(number, self.text_length(number))?;
             self.search_in(number, points)?;
@@ -241,7 +253,7 @@ pub fn compare_long<S: Side>(side: &S, pair: &Pair, seed: u64) -> Result<Tally, 
     let before = pair.clone();
     let mut comparison = Comparison::new(side, pair, seed);
     comparison.each_operation_once()?;
-    for number in 1..=comparison.opened.read_sheet().unwrap_or(0) {
+    for number in comparison.each_number() {
         let matching = comparison.opened.search(number, MOST_POINTS).unwrap_or(None);
         comparison.judging(number, matching)?;
     }

@@ -70,6 +70,23 @@ pub fn pair_of(seed: u64) -> Pair {
     Pair { sheet, log }
 }
 
+/// An accepted sheet that mostly has far more than 4,096 antiscenarios, and a short log: rows at random, which a log seldom meets, or the rows of
+/// a smaller sheet over and over.
+pub fn large_pair_of(seed: u64) -> Pair {
+    let mut random = Random::new(seed);
+    let wanted = any_wanted(&mut random);
+    let log = logs::random(&mut random, 5);
+    if random.one_in(3) {
+        return Pair { sheet: sheet_for(&mut random, &sheets::MANY, wanted, &log), log: log.text() };
+    }
+    let shape = random.pick(&[&sheets::FEW_ROWS, &sheets::MIDDLE, &sheets::LARGE]);
+    let smaller = sheet_for(&mut random, shape, wanted, &log);
+    let Sheet { k, rows, .. } = sheet::read(&smaller, Blunder::None).expect("a random sheet is accepted");
+    let rows = sheets::filled(&mut random, &rows);
+    let (k, rows) = if random.one_in(3) { sheets::widened(&mut random, k, &rows) } else { (k, rows) };
+    Pair { sheet: sheet::text(k, &rows), log: log.text() }
+}
+
 /// An accepted sheet of few antiscenarios, and a log of hundreds or thousands of lines.
 pub fn long_pair_of(seed: u64) -> Pair {
     let mut random = Random::new(seed);

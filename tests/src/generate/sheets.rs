@@ -1,7 +1,7 @@
 //! Sheets that are accepted: random ones with every kind in every section that permits it, and those of document 01.
 use crate::generate::logs::EVENTS;
 use crate::random::Random;
-use crate::reference::sheet::{self, kind::*, Row, CLOSE, START};
+use crate::reference::sheet::{self, kind::*, Row, CLOSE, MOST_CONSEQUENT_ROWS, START};
 
 /// How large a random sheet may become.
 pub struct Shape {
@@ -11,6 +11,8 @@ pub struct Shape {
     pub consequents: u32,
     pub consequent_points: u32,
     pub consequent_rows: u32,
+    /// None for sheets some of whose consequents are empty.
+    pub fewest_rows: Option<u32>,
 }
 
 pub const SMALL: Shape = Shape {
@@ -20,6 +22,7 @@ pub const SMALL: Shape = Shape {
     consequents: 2,
     consequent_points: 2,
     consequent_rows: 2,
+    fewest_rows: None,
 };
 pub const MIDDLE: Shape = Shape {
     antecedent_points: 3,
@@ -28,6 +31,7 @@ pub const MIDDLE: Shape = Shape {
     consequents: 3,
     consequent_points: 3,
     consequent_rows: 3,
+    fewest_rows: None,
 };
 pub const LARGE: Shape = Shape {
     antecedent_points: 4,
@@ -36,6 +40,7 @@ pub const LARGE: Shape = Shape {
     consequents: 6,
     consequent_points: 8,
     consequent_rows: 4,
+    fewest_rows: None,
 };
 
 /// Sheets whose antiscenarios place at most two points freely, for logs of thousands of lines.
@@ -46,11 +51,34 @@ pub const NARROW: Shape = Shape {
     consequents: 1,
     consequent_points: 3,
     consequent_rows: 2,
+    fewest_rows: None,
 };
 
 /// Sheets whose antiscenarios place at most three points freely, for logs of hundreds of lines.
 pub const TWO_POINTS: Shape = Shape { antecedent_points: 2, antecedent_rows: 2, ..NARROW };
 pub const TWO_CONSEQUENTS: Shape = Shape { consequents: 2, consequent_points: 2, ..NARROW };
+
+/// Sheets with far more than 4,096 antiscenarios.
+pub const MANY: Shape = Shape {
+    antecedent_points: 2,
+    antecedent_rows: 1,
+    fewest_consequents: 4,
+    consequents: 6,
+    consequent_points: 4,
+    consequent_rows: 20,
+    fewest_rows: Some(12),
+};
+
+/// Sheets of up to six consequents with so few rows that a log often meets them.
+pub const FEW_ROWS: Shape = Shape {
+    antecedent_points: 2,
+    antecedent_rows: 2,
+    fewest_consequents: 3,
+    consequents: 6,
+    consequent_points: 1,
+    consequent_rows: 2,
+    fewest_rows: Some(1),
+};
 
 /// Sheet S of document 01.
 pub fn sheet_s() -> Vec<u8> {
@@ -177,12 +205,12 @@ fn antecedent(random: &mut Random, shape: &Shape) -> Vec<Row> {
 
 fn consequent(random: &mut Random, shape: &Shape, section: u32, antecedent_points: &[u32]) -> Vec<Row> {
     let mut rows = Vec::new();
-    if random.one_in(10) {
+    if shape.fewest_rows.is_none() && random.one_in(10) {
         return rows;
     }
     let mut known = antecedent_points.to_vec();
     let mut introduced = 0;
-    let length = random.from_to(1, shape.consequent_points + shape.consequent_rows);
+    let length = random.from_to(shape.fewest_rows.unwrap_or(1), shape.consequent_points + shape.consequent_rows);
     let mut demands = 0;
     for _ in 0..length {
         if introduced < shape.consequent_points && (random.one_in(2) || demands == shape.consequent_rows) {
@@ -198,7 +226,7 @@ fn consequent(random: &mut Random, shape: &Shape, section: u32, antecedent_point
     rows
 }
 
-/// A random sheet; one that has too many antiscenarios is refused with 11, every other is accepted.
+/// A random sheet, which is accepted.
 pub fn random(random: &mut Random, shape: &Shape) -> Vec<u8> {
     let (k, rows) = random_rows(random, shape);
     sheet::text(k, &rows)
@@ -212,4 +240,44 @@ pub fn random_rows(random: &mut Random, shape: &Shape) -> (u32, Vec<Row>) {
         rows.extend(consequent(random, shape, section, &points));
     }
     (k, rows)
+}
+
+/// The rows with those of kinds 6 to 12 in the consequents written over and over, until each consequent is full: the same matchings extend, and
+/// there are many more antiscenarios.
+pub fn filled(random: &mut Random, rows: &[Row]) -> Vec<Row> {
+    let mut filled = Vec::new();
+    for section in rows.chunk_by(|row, next| row.section == next.section) {
+        let mut section = section.to_vec();
+        let demands = |section: &[Row]| -> Vec<usize> {
+            (0..section.len()).filter(|&index| section[index].section > 0 && !section[index].introduces()).collect()
+        };
+        while section.len() < MOST_CONSEQUENT_ROWS && !demands(&section).is_empty() {
+            let index = random.pick(&demands(&section));
+            section.insert(index, section[index]);
+        }
+        filled.extend(section);
+    }
+    filled
+}
+
+/// Six consequents: one of the sheet's, and else full ones of rows with two denials each over the antecedent's points, where there are two.
+pub fn widened(random: &mut Random, k: u32, rows: &[Row]) -> (u32, Vec<Row>) {
+    let points = sheet::introduced(rows, 0);
+    if k == 0 || points.len() < 2 {
+        return (k, rows.to_vec());
+    }
+    let kept = random.from_to(1, k);
+    let mut widened: Vec<Row> = rows.iter().filter(|row| row.section == 0).copied().collect();
+    for section in 1..=6 {
+        if section == kept {
+            widened.extend(rows.iter().filter(|row| row.section == kept));
+            continue;
+        }
+        for _ in 0..MOST_CONSEQUENT_ROWS {
+            let (p, q) = two_of(random, &points);
+            let (kind, set) = if random.one_in(2) { (BEFORE, 0) } else { (FREE, set(random)) };
+            widened.push(Row::new(section, kind, p, q, set, 0));
+        }
+    }
+    (6, widened)
 }

@@ -3,7 +3,6 @@ use super::columns::{read, write};
 use super::Refused;
 
 pub const MOST_ROWS: usize = 176;
-const MOST_ANTISCENARIOS: u64 = 4096;
 const FIRST_LINE: usize = 7;
 const ROW: usize = 35;
 const CLOSE: u32 = 99;
@@ -205,9 +204,6 @@ impl Sheet {
             sheet.begins[section] = sheet.begins[section].max(sheet.begins[section - 1]);
         }
         sheet.count = sheet.denials[1..=k as usize].iter().product();
-        if sheet.count > MOST_ANTISCENARIOS {
-            return Err(first(11));
-        }
         Ok(sheet)
     }
 

@@ -62,6 +62,18 @@ fn consequents_by_themselves_cut_down_as_brute_force_does() {
     }
 }
 
+/// What is said of every N by placements is what going through the numbers says, where there are few.
+#[test]
+fn fronts_are_reached_by_the_numbers_that_brute_force_finds() {
+    for (sheet, log) in few_placements(14, 2000).into_iter().filter(|(sheet, _)| sheet.count <= 60) {
+        let mut cut_down = CutDown::new(&sheet, &log);
+        let all: Vec<Vec<bool>> = (1..=sheet.count).map(|m| cut_down.of(&antiscenario(&sheet, m))).collect();
+        let lowest = |front: usize| all.iter().position(|cut| cut[front]).map(|index| index as u64 + 1);
+        let due: Vec<Option<u64>> = (0..cut_down.fronts.len()).map(lowest).collect();
+        assert_eq!(cut_down.reaching(&sheet), due);
+    }
+}
+
 /// The first row of a consequent up to which no matching has this front, numbered over the whole sheet.
 fn row_at_fault(sheet: &Sheet, log: &Log, section: u32, front: &[u32]) -> Option<u32> {
     let antecedent = sheet.section(0);

@@ -53,6 +53,22 @@ impl<'a> CutDown<'a> {
         all
     }
 
+    /// The fronts, each with the lowest number of an antiscenario that has a matching cut down to it: one denial of every consequent is chosen,
+    /// whichever extends the front, for each consequent by itself. No number is gone through, however large N is.
+    pub fn reaching(&mut self, sheet: &Sheet) -> Vec<Option<u64>> {
+        let mut before: Vec<Option<u64>> = vec![Some(0); self.fronts.len()];
+        for denials in &sheet.denials {
+            let mut chosen = vec![None; self.fronts.len()];
+            for (choice, denial) in denials.iter().enumerate().rev() {
+                let extending = self.extending(denial.clone());
+                chosen.iter_mut().zip(extending).filter(|(_, extends)| **extends).for_each(|(chosen, _)| *chosen = Some(choice));
+            }
+            let mixed = |before: u64, chosen: usize| before * denials.len() as u64 + chosen as u64;
+            before = before.into_iter().zip(chosen).map(|(before, chosen)| Some(mixed(before?, chosen?))).collect();
+        }
+        before.into_iter().map(|before| before.map(|before| before + 1)).collect()
+    }
+
     fn extending(&mut self, rows: Vec<Row>) -> &[bool] {
         self.extending.entry(rows).or_insert_with_key(|rows| {
             let (plan, points) = (Plan::new(rows, self.log), points(&self.antecedent));

@@ -6,6 +6,7 @@ use super::refusal::Refusal;
 use super::sheet::{self, Row};
 use crate::generate::logs::log_of;
 use crate::generate::sheets::sheet_s;
+use crate::generate::targeted::fullest;
 
 fn pair(sheet_text: &[u8], lines: &[(u32, u32)]) -> Opened {
     open(sheet_text, &log_of(lines).text(), Blunder::None)
@@ -68,8 +69,9 @@ fn largest_counts() {
         sheet::text(6, &rows)
     };
     assert_eq!(pair(&denials([4; 6]), &[]).read_sheet(), Ok(4096));
-    assert_eq!(pair(&denials([4, 4, 5, 4, 4, 4]), &[]).read_sheet(), Err(Refusal::TooManyAntiscenarios));
+    assert_eq!(pair(&denials([4, 4, 5, 4, 4, 4]), &[]).read_sheet(), Ok(5120));
     assert_eq!(pair(&denials([24, 24, 24, 24, 24, 0]), &[]).read_sheet(), Ok(0));
+    assert_eq!(pair(&fullest(), &[]).read_sheet(), Ok(12_230_590_464));
 }
 
 #[test]

@@ -13,7 +13,6 @@ pub enum Refusal {
     PointQ = 8,
     Fields = 9,
     SectionTooLong = 10,
-    TooManyAntiscenarios = 11,
     LogFirstLine = 21,
     LineCount = 22,
     LogLength = 23,

@@ -1,4 +1,4 @@
-//! Document 01: a sheet, and its reading with refusals 1 to 11.
+//! Document 01: a sheet, and its reading with refusals 1 to 10; document 02, A4: however many antiscenarios it has.
 use super::antiscenario::{self, Denial};
 use super::blunder::Blunder;
 use super::columns::{read_line, spell_line};
@@ -10,7 +10,6 @@ pub const MOST_ANTECEDENT_ROWS: usize = 32;
 pub const MOST_CONSEQUENT_ROWS: usize = 24;
 pub const MOST_ANTECEDENT_POINTS: usize = 4;
 pub const MOST_CONSEQUENT_POINTS: usize = 8;
-pub const MOST_ANTISCENARIOS: u64 = 4096;
 pub const FIRST_LINE: usize = 7;
 pub const ROW: usize = 35;
 const FIRST_WIDTHS: [usize; 2] = [3, 3];
@@ -67,7 +66,7 @@ pub struct Sheet {
     pub rows: Vec<Row>,
     /// The denials of consequents 1 to k.
     pub denials: Vec<Vec<Denial>>,
-    /// N, the number of antiscenarios.
+    /// N, the number of antiscenarios, at most 48^6.
     pub count: u64,
     pub blunder: Blunder,
 }
@@ -199,8 +198,5 @@ pub fn read(text: &[u8], blunder: Blunder) -> Result<Sheet, Fault> {
     let mut sheet = Sheet { k, rows, denials: Vec::new(), count: 0, blunder };
     sheet.denials = (1..=k).map(|section| antiscenario::denials(&sheet, section)).collect();
     sheet.count = antiscenario::count(&sheet);
-    if sheet.count > MOST_ANTISCENARIOS {
-        return Err(first_line_fault(Refusal::TooManyAntiscenarios, text));
-    }
     Ok(sheet)
 }

@@ -30,7 +30,7 @@ fn targeted_logs() {
 #[test]
 fn two_faults_in_both_orders() {
     for (first, second) in PLACES.iter().flat_map(|x| PLACES.iter().map(move |y| (*x, *y))) {
-        for (x, y) in (1..=11).flat_map(|x| (1..=11).map(move |y| (x, y))) {
+        for (x, y) in (1..=10).flat_map(|x| (1..=10).map(move |y| (x, y))) {
             holds_for(&faulty_sheet(&[(x, first), (y, second)]), false);
         }
         for (x, y) in (21..=27).flat_map(|x| (21..=27).map(move |y| (x, y))) {

@@ -12,6 +12,9 @@ pub const SHEET: &str = "examples/lockmass/sheet";
 pub const LOG: &str = "examples/lockmass/log";
 pub const KEPT: &str = "examples/lockmass/log-kept";
 pub const INJECTION: &str = "examples/lockmass/log-injection";
+pub const SUPPLIER: &str = "examples/supplier/sheet";
+pub const SUPPLIER_LOG: &str = "examples/supplier/log";
+pub const SUPPLIER_KEPT: &str = "examples/supplier/log-kept";
 
 /// The program itself, built where it is missing or older than its sources.
 pub fn program() -> &'static Path {

@@ -25,14 +25,13 @@ const EARLY_ROW: usize = 10;
 pub fn faulty_sheet(faults: &[(u32, Place)]) -> Case {
     let has = |refusal, place| faults.contains(&(refusal, place));
     let too_long = |place| usize::from(has(10, place));
-    let many = faults.iter().any(|fault| fault.0 == 11);
     let same = |section| [section, 8, 1, 2, 0, 0];
     let mut rows = vec![[0, 1, 1, 0, 8, 0], [0, 1, 2, 0, 8, 0]];
     rows.extend(vec![same(0); 30 + too_long(Place::Early)]);
-    rows.extend(vec![same(1); if many { 24 } else { 2 }]);
+    rows.extend(vec![same(1); 2]);
     let late_begin = rows.len();
     rows.extend(vec![same(2); 24 + too_long(Place::Late)]);
-    rows.extend(vec![same(3); if many { 24 } else { 4 }]);
+    rows.extend(vec![same(3); 4]);
     let mut text = sheet_of(3, &rows);
     let mut turns = Vec::new();
     for &(refusal, place) in faults {
@@ -45,7 +44,6 @@ pub fn faulty_sheet(faults: &[(u32, Place)]) -> Case {
         put_sheet_fault(&mut text, refusal, SHEET_FIRST + ROW * row);
         turns.push(match refusal {
             1..=3 => Turn::First(refusal),
-            11 => Turn::Last(refusal),
             _ => Turn::At(row, refusal),
         });
     }

@@ -5,7 +5,7 @@ mod sheets;
 
 use crate::reference::sheet::{self, Row};
 pub use logs::logs;
-pub use sheets::{sheets, with_denials};
+pub use sheets::{all_before, counted, fullest, sheets, with_denials};
 
 /// A text and what its reading must give: 0 when accepted, else the refusal and the part that it is about.
 pub struct Case {

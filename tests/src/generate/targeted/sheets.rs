@@ -1,4 +1,4 @@
-//! Sheets for refusals 1 to 11 and their boundaries.
+//! Sheets for refusals 1 to 10 and their boundaries.
 use super::{replaced, sheet_first, sheet_of, sheet_row, Case, Fields, ROW, SHEET_FIRST};
 use crate::generate::sheets::sheet_s;
 
@@ -319,27 +319,42 @@ pub fn with_denials(counts: [usize; 6]) -> Vec<u8> {
     sheet_of(6, &rows)
 }
 
-/// Every section full, with BEFORE rows: 176 rows and 48^6 antiscenarios.
-fn full() -> Vec<u8> {
+/// Two scans, and 24 BEFORE rows in each of six consequents: 48^6 antiscenarios, of which every other denial is SAME.
+pub fn all_before() -> Vec<u8> {
+    with_all_before(0)
+}
+
+/// Every section full, with BEFORE rows: 176 rows and 48^6 antiscenarios, which no log meets.
+pub fn fullest() -> Vec<u8> {
+    with_all_before(30)
+}
+
+fn with_all_before(in_antecedent: usize) -> Vec<u8> {
     let mut rows = vec![[0, 1, 1, 0, 8, 0], [0, 1, 2, 0, 8, 0]];
-    rows.extend(vec![[0, 6, 1, 2, 0, 0]; 30]);
+    rows.extend(vec![[0, 6, 1, 2, 0, 0]; in_antecedent]);
     for section in 1..=6 {
         rows.extend(vec![[section, 6, 1, 2, 0, 0]; 24]);
     }
     sheet_of(6, &rows)
 }
 
-fn counts() -> Vec<Case> {
+/// Sheets with the N that each has.
+pub fn counted() -> Vec<(Vec<u8>, u64)> {
     vec![
-        sheet_first("N 4,096", with_denials([4; 6]), 0),
-        sheet_first("N 5,120", with_denials([4, 4, 4, 4, 4, 5]), 11),
-        sheet_first("N 5,120, the first with five", with_denials([5, 4, 4, 4, 4, 4]), 11),
-        sheet_first("N 17", with_denials([17, 1, 1, 1, 1, 1]), 0),
-        sheet_first("five factors of 24 and one of 0", with_denials([24, 24, 24, 24, 24, 0]), 0),
-        sheet_first("a factor of 0 and five of 24", with_denials([0, 24, 24, 24, 24, 24]), 0),
-        sheet_first("six factors of 24", with_denials([24; 6]), 11),
-        sheet_first("48^6 in 176 rows", full(), 11),
-        sheet_first("24 times 24 times 7", with_denials([24, 24, 7, 1, 1, 1]), 0),
-        sheet_first("24 times 24 times 8", with_denials([24, 24, 8, 1, 1, 1]), 11),
+        (with_denials([4; 6]), 4096),
+        (with_denials([4, 4, 4, 4, 4, 5]), 5120),
+        (with_denials([5, 4, 4, 4, 4, 4]), 5120),
+        (with_denials([17, 1, 1, 1, 1, 1]), 17),
+        (with_denials([24, 24, 24, 24, 24, 0]), 0),
+        (with_denials([0, 24, 24, 24, 24, 24]), 0),
+        (with_denials([24, 24, 7, 1, 1, 1]), 4032),
+        (with_denials([24, 24, 8, 1, 1, 1]), 4608),
+        (with_denials([24; 6]), 191_102_976),
+        (all_before(), 12_230_590_464),
+        (fullest(), 12_230_590_464),
     ]
+}
+
+fn counts() -> Vec<Case> {
+    counted().into_iter().map(|(text, count)| sheet_first(&format!("N {count}"), text, 0)).collect()
 }
