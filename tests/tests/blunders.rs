@@ -2,7 +2,7 @@
 mod common;
 use satskhubo_tests::compare::{compare, compare_once, Comparison, Mismatch};
 use satskhubo_tests::expected::Blundering;
-use satskhubo_tests::generate::pairs::pair_of;
+use satskhubo_tests::generate::pairs::{large_pair_of, pair_of};
 use satskhubo_tests::generate::{families, Pair};
 use satskhubo_tests::reference::blunder::Blunder;
 use satskhubo_tests::reference::operations::open;
@@ -13,7 +13,7 @@ const MOST_PAIRS: u64 = 400;
 const PAIRS_WITHOUT: u64 = 60;
 
 /// How many pairs were compared until the blunder showed, and how.
-fn found_after(blunder: Blunder, most_pairs: u64) -> Option<(u64, String)> {
+fn found_after(blunder: Blunder, most_pairs: u64, pair_of: fn(u64) -> Pair) -> Option<(u64, String)> {
     (0..most_pairs).find_map(|seed| match compare(&Blundering(blunder), &pair_of(seed), seed, 6) {
         Ok(_) => None,
         Err(Mismatch(text)) => Some((seed + 1, text)),
@@ -21,7 +21,13 @@ fn found_after(blunder: Blunder, most_pairs: u64) -> Option<(u64, String)> {
 }
 
 fn is_found(blunder: Blunder) {
-    let Some((pairs, text)) = found_after(blunder, MOST_PAIRS) else { panic!("{blunder:?} was not found in {MOST_PAIRS} pairs") };
+    is_found_in(blunder, pair_of);
+}
+
+fn is_found_in(blunder: Blunder, pair_of: fn(u64) -> Pair) {
+    let Some((pairs, text)) = found_after(blunder, MOST_PAIRS, pair_of) else {
+        panic!("{blunder:?} was not found in {MOST_PAIRS} pairs")
+    };
     let first = text.lines().next().unwrap_or("").to_string();
     writeln!(std::io::stderr(), "{blunder:?} found at pair {pairs}: {first}").unwrap();
 }
@@ -74,7 +80,8 @@ fn the_small_family_finds_them() {
 
 #[test]
 fn without_a_blunder_nothing_is_found() {
-    assert_eq!(found_after(Blunder::None, PAIRS_WITHOUT), None);
+    assert_eq!(found_after(Blunder::None, PAIRS_WITHOUT, pair_of), None);
+    assert_eq!(found_after(Blunder::None, 6, large_pair_of), None);
 }
 
 #[test]
@@ -101,4 +108,23 @@ fn bringing_points_that_a_denial_does_not_need() {
 #[test]
 fn taking_n_as_0_when_k_is_0() {
     is_found(Blunder::NoneWithoutConsequents);
+}
+
+/// Document 02, A4.
+#[test]
+fn counting_in_32_bits() {
+    is_found_in(Blunder::CountIn32Bits, large_pair_of);
+    is_found_in(Blunder::NumberIn32Bits, large_pair_of);
+}
+
+/// On large sheets too, where demand 3 goes by placements.
+#[test]
+fn demand_3_finds_them_in_large_sheets() {
+    for blunder in [Blunder::ReverseOnly, Blunder::EndsBetween, Blunder::BringsAll] {
+        let is_large = |seed: &u64| open(&large_pair_of(*seed).sheet, b"", Blunder::None).read_sheet().unwrap() > 4096;
+        let breaks = |seed: &u64| Comparison::new(&Blundering(blunder), &large_pair_of(*seed), *seed).demand_3().is_err();
+        let pairs = (0..4 * MOST_PAIRS).filter(is_large).find(breaks);
+        let pairs = pairs.unwrap_or_else(|| panic!("{blunder:?} keeps demand 3 in large sheets")) + 1;
+        writeln!(std::io::stderr(), "{blunder:?} breaks demand 3 in large sheets at pair {pairs}").unwrap();
+    }
 }

@@ -1,8 +1,8 @@
 //! Document 02, A4: the program with sheets that have up to 48^6 antiscenarios: lists, ranges, searches that are answered at once, and searches
 //! that are ended.
 mod common;
-use common::program::{command, file, run, Said, SUPPLIER, SUPPLIER_KEPT, SUPPLIER_LOG};
-use common::{scratch, top, until};
+use common::program::{command, file, run, SUPPLIER, SUPPLIER_KEPT, SUPPLIER_LOG};
+use common::{scratch, until};
 use satskhubo_tests::generate::logs::log_of;
 use satskhubo_tests::generate::sheets::sheet_s;
 use satskhubo_tests::generate::targeted::{all_before, with_denials};
@@ -135,12 +135,12 @@ fn at_work(words: &[&str], answer: &Path) -> Child {
     command(words).stdout(out).stderr(Stdio::piped()).spawn().unwrap()
 }
 
-fn interrupted(mut child: Child) -> Said {
+/// What it said on standard error.
+fn interrupted(child: Child) -> String {
     assert!(Command::new("kill").args(["-s", "INT", &child.id().to_string()]).status().unwrap().success());
-    until("it ends", || child.try_wait().unwrap().map(|_| ()));
     let output = child.wait_with_output().unwrap();
     assert_eq!(output.status.signal(), Some(2), "{output:?}");
-    Said { status: 130, out: String::new(), err: String::from_utf8(output.stderr).unwrap() }
+    String::from_utf8(output.stderr).unwrap()
 }
 
 /// What is found stands there when the search is ended: one number of billions, long before the next.
@@ -154,13 +154,29 @@ fn ctrl_c_leaves_what_was_found() {
     let answer = folder.join("answer");
     let child = at_work(&["search", &sheet, &log, "--number", &range], &answer);
     until("something is found", || fs::metadata(&answer).unwrap().len().gt(&0).then_some(()));
-    let said = interrupted(child);
+    let complaint = interrupted(child);
     let text = fs::read_to_string(&answer).unwrap();
     let block = format!("antiscenario {last_same} is found in {log}\n");
     assert!(
-        text.starts_with(&block) && text.lines().count() == 3 && text.ends_with('\n') && said.err.is_empty(),
-        "{text}{said:?}"
+        text.starts_with(&block) && text.lines().count() == 3 && text.ends_with('\n') && complaint.is_empty(),
+        "{text}{complaint}"
     );
+}
+
+/// Without numbers, from the first on.
+#[test]
+fn a_whole_search_says_what_it_finds_at_once() {
+    let folder = scratch("large-whole");
+    let [sheet, _] = largest(&folder);
+    let two = file(&folder, "two", &log_of(&[(5, 3), (6, 3)]).text());
+    let answer = folder.join("answer");
+    let child = at_work(&["search", &sheet, &two], &answer);
+    until("something is found", || fs::metadata(&answer).unwrap().len().gt(&2000).then_some(()));
+    interrupted(child);
+    let text = fs::read_to_string(&answer).unwrap();
+    let found: Vec<&str> = text.lines().filter(|line| line.starts_with("antiscenario ")).collect();
+    let due = [1, 3, 5, 7].map(|number| format!("antiscenario {number} is found in {two}"));
+    assert_eq!(found[..4], due);
 }
 
 /// The peak of a process's memory, in KiB.
@@ -185,20 +201,18 @@ fn billions_need_little_memory() {
     assert!(text.lines().zip(1..).take(100_000).all(|(line, number)| line == format!("  0{number:11}  0")), "in order");
 }
 
-/// The supplier's log breaks the sheet: numbers are found from the first on, and a range ends.
+/// The supplier's log breaks the sheet, by few of the numbers.
 #[test]
 fn the_suppliers_log_is_searched() {
-    let folder = scratch("large-supplier");
     let (status, none) = run(&["search", SUPPLIER, SUPPLIER_KEPT]).answer();
     assert_eq!((status, none), (0, format!("none of the {SUPPLIERS} antiscenarios is found in {SUPPLIER_KEPT}\n")));
-    let answer = folder.join("answer");
-    let child = at_work(&["search", SUPPLIER, SUPPLIER_LOG], &answer);
-    until("something is found", || fs::metadata(&answer).unwrap().len().gt(&0).then_some(()));
-    interrupted(child);
-    let text = fs::read_to_string(&answer).unwrap();
-    let first = text.lines().next().unwrap().to_string();
-    let number = first.strip_prefix("antiscenario ").and_then(|rest| rest.split_once(' ')).unwrap().0.to_string();
-    let (status, alone) = run(&["search", SUPPLIER, SUPPLIER_LOG, "--number", &number]).answer();
-    assert!(status == 1 && text.starts_with(&alone), "{text}\n{alone}");
-    assert!(top().join(SUPPLIER).exists());
+    let numbers = ["1114000-1114113", "1114114-1120000"];
+    let [hit, missed] = numbers.map(|numbers| run(&["search", SUPPLIER, SUPPLIER_LOG, "--number", numbers]).answer());
+    let (_, alone) = run(&["search", SUPPLIER, SUPPLIER_LOG, "--number", "1114113"]).answer();
+    assert!(
+        alone.starts_with("antiscenario 1114113 is found in examples/supplier/log\n  point 1 (row 1, POINT): line 17 "),
+        "{alone}"
+    );
+    assert_eq!(hit, (1, format!("{alone}1 of the antiscenarios 1114000 to 1114113 found in {SUPPLIER_LOG}\n")));
+    assert_eq!(missed, (0, format!("none of the antiscenarios 1114114 to 1120000 is found in {SUPPLIER_LOG}\n")));
 }

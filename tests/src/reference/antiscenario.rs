@@ -96,7 +96,11 @@ pub fn count(sheet: &Sheet) -> u64 {
     if sheet.k == 0 && sheet.blunder == Blunder::NoneWithoutConsequents {
         return 0;
     }
-    sheet.denials.iter().map(|denials| denials.len() as u64).product()
+    let count = sheet.denials.iter().map(|denials| denials.len() as u64).product();
+    match sheet.blunder {
+        Blunder::CountIn32Bits => count % (1 << 32),
+        _ => count,
+    }
 }
 
 /// Document 01: antiscenario number m, of 1 to N.

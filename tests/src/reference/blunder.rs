@@ -1,4 +1,4 @@
-//! The blunders that document 01 tells to look for, each a switch in the reference.
+//! The blunders that document 01 tells to look for, and slips in what document 02 asks, each a switch in the reference.
 
 #[derive(Clone, Copy, Debug, PartialEq, Eq)]
 pub enum Blunder {
@@ -15,4 +15,8 @@ pub enum Blunder {
     BringsEarlier,
     /// Taking N as 0 when k is 0.
     NoneWithoutConsequents,
+    /// A4: N in 32 bits.
+    CountIn32Bits,
+    /// A4: m in 32 bits, so that 4,294,967,297 is 1.
+    NumberIn32Bits,
 }
