@@ -50,7 +50,7 @@ pub fn scratch(name: &str) -> std::path::PathBuf {
 }
 
 /// Asks until there is an answer; what it waits for comes soon, or never.
-pub fn until<T>(what: &str, ask: impl Fn() -> Option<T>) -> T {
+pub fn until<T>(what: &str, mut ask: impl FnMut() -> Option<T>) -> T {
     for _ in 0..6000 {
         if let Some(answer) = ask() {
             return answer;
