@@ -59,12 +59,18 @@ static uint32_t search_one(const uint8_t *sheet, size_t sheet_len, const uint8_t
     return 0;
 }
 
-/* Every antiscenario. Gives the first refusal, or 0. */
+/* A sheet has up to 12,230,590,464 antiscenarios; so many are searched here. */
+#define MOST_SEARCHED 4096
+
+/* The antiscenarios from 1 on. Gives the first refusal, or 0. */
 static uint32_t search_all(const uint8_t *sheet, size_t sheet_len, const uint8_t *log, size_t log_len) {
     uint64_t count = 0;
     uint32_t answer = satskhubo_read_sheet(sheet, sheet_len, &count);
-    for (uint64_t number = 1; answer == 0 && number <= count; number++)
+    uint64_t last = count < MOST_SEARCHED ? count : MOST_SEARCHED;
+    for (uint64_t number = 1; answer == 0 && number <= last; number++)
         answer = search_one(sheet, sheet_len, log, log_len, number);
+    if (answer == 0 && last < count)
+        printf("searched: %llu of %llu antiscenarios\n", (unsigned long long)last, (unsigned long long)count);
     return answer;
 }
 

@@ -1,7 +1,7 @@
 //! Document 02, A4: the program with sheets that have up to 48^6 antiscenarios: lists, ranges, searches that are answered at once, and searches
 //! that are ended.
 mod common;
-use common::program::{command, file, run, SUPPLIER, SUPPLIER_KEPT, SUPPLIER_LOG};
+use common::program::{command, file, program, run, Said, SUPPLIER, SUPPLIER_KEPT, SUPPLIER_LOG};
 use common::{scratch, until};
 use satskhubo_tests::generate::logs::log_of;
 use satskhubo_tests::generate::sheets::sheet_s;
@@ -90,10 +90,10 @@ fn twelve_billion_numbers() {
     assert!(past.starts_with("antiscenario 4294967297 of ") && past.contains("SAME") && !first.contains("SAME"), "{past}");
     let none = file(&folder, "none", &log_of(&[(5, 2)]).text());
     let said = format!("none of the 12230590464 antiscenarios is found in {none}\n");
-    assert_eq!(run(&["search", &sheet, &none]).answer(), (0, said.clone()));
+    assert_eq!(soon(&["search", &sheet, &none]).answer(), (0, said.clone()));
     let summary = "2 logs: found in 0, nothing in 2, 0 refused, 0 not read\n";
-    assert_eq!(run(&["search", &sheet, &none, &none]).answer(), (0, format!("{said}{said}{summary}")));
-    let range = run(&["search", &sheet, &none, "--number", "7-12230590464"]).answer();
+    assert_eq!(soon(&["search", &sheet, &none, &none]).answer(), (0, format!("{said}{said}{summary}")));
+    let range = soon(&["search", &sheet, &none, "--number", "7-12230590464"]).answer();
     assert_eq!(range, (0, format!("none of the antiscenarios 7 to 12230590464 is found in {none}\n")));
     for form in ["--plain", "--json"] {
         let complaint = run(&["search", form, &sheet, &none]).complaint();
@@ -129,18 +129,31 @@ fn ranges_are_searched_in_order() {
     assert!(text.contains("none of the antiscenarios 2 to 3 is found in examples/lockmass/log-kept\n"), "{text}");
 }
 
-/// A search at work, its answer written to a file.
-fn at_work(words: &[&str], answer: &Path) -> Child {
-    let out = File::create(answer).unwrap();
-    command(words).stdout(out).stderr(Stdio::piped()).spawn().unwrap()
+/// A search at work, its answer written to a file. It is ended with its owner.
+struct Search(Child);
+
+impl Search {
+    fn new(words: &[&str], answer: &Path) -> Search {
+        let out = File::create(answer).unwrap();
+        Search(command(words).stdout(out).stderr(Stdio::null()).spawn().unwrap())
+    }
+
+    fn interrupt(mut self) {
+        assert!(Command::new("kill").args(["-s", "INT", &self.0.id().to_string()]).status().unwrap().success());
+        assert_eq!(self.0.wait().unwrap().signal(), Some(2));
+    }
 }
 
-/// What it said on standard error.
-fn interrupted(child: Child) -> String {
-    assert!(Command::new("kill").args(["-s", "INT", &child.id().to_string()]).status().unwrap().success());
-    let output = child.wait_with_output().unwrap();
-    assert_eq!(output.status.signal(), Some(2), "{output:?}");
-    String::from_utf8(output.stderr).unwrap()
+impl Drop for Search {
+    fn drop(&mut self) {
+        let _ = self.0.kill();
+        let _ = self.0.wait();
+    }
+}
+
+/// A run that must not go through billions of numbers.
+fn soon(words: &[&str]) -> Said {
+    Command::new("timeout").arg("60").arg(program()).args(words).output().expect("it runs").into()
 }
 
 /// What is found stands there when the search is ended: one number of billions, long before the next.
@@ -152,15 +165,12 @@ fn ctrl_c_leaves_what_was_found() {
     let last_same = 2 * 48u64.pow(5);
     let range = format!("{last_same}-{LARGEST}");
     let answer = folder.join("answer");
-    let child = at_work(&["search", &sheet, &log, "--number", &range], &answer);
+    let search = Search::new(&["search", &sheet, &log, "--number", &range], &answer);
     until("something is found", || fs::metadata(&answer).unwrap().len().gt(&0).then_some(()));
-    let complaint = interrupted(child);
+    search.interrupt();
     let text = fs::read_to_string(&answer).unwrap();
     let block = format!("antiscenario {last_same} is found in {log}\n");
-    assert!(
-        text.starts_with(&block) && text.lines().count() == 3 && text.ends_with('\n') && complaint.is_empty(),
-        "{text}{complaint}"
-    );
+    assert!(text.starts_with(&block) && text.lines().count() == 3 && text.ends_with('\n'), "{text}");
 }
 
 /// Without numbers, from the first on.
@@ -170,9 +180,9 @@ fn a_whole_search_says_what_it_finds_at_once() {
     let [sheet, _] = largest(&folder);
     let two = file(&folder, "two", &log_of(&[(5, 3), (6, 3)]).text());
     let answer = folder.join("answer");
-    let child = at_work(&["search", &sheet, &two], &answer);
+    let search = Search::new(&["search", &sheet, &two], &answer);
     until("something is found", || fs::metadata(&answer).unwrap().len().gt(&2000).then_some(()));
-    interrupted(child);
+    search.interrupt();
     let text = fs::read_to_string(&answer).unwrap();
     let found: Vec<&str> = text.lines().filter(|line| line.starts_with("antiscenario ")).collect();
     let due = [1, 3, 5, 7].map(|number| format!("antiscenario {number} is found in {two}"));
@@ -192,10 +202,10 @@ fn billions_need_little_memory() {
     let folder = scratch("large-memory");
     let [sheet, log] = largest(&folder);
     let answer = folder.join("answer");
-    let child = at_work(&["search", "--plain", &sheet, &log, "--number", &format!("1-{LARGEST}")], &answer);
+    let search = Search::new(&["search", "--plain", &sheet, &log, "--number", &format!("1-{LARGEST}")], &answer);
     until("many are searched", || fs::metadata(&answer).unwrap().len().gt(&2_000_000).then_some(()));
-    let memory = peak(child.id());
-    interrupted(child);
+    let memory = peak(search.0.id());
+    search.interrupt();
     assert!(memory < 32 * 1024, "{memory} KiB");
     let text = fs::read_to_string(&answer).unwrap();
     assert!(text.lines().zip(1..).take(100_000).all(|(line, number)| line == format!("  0{number:11}  0")), "in order");
