@@ -153,7 +153,7 @@ impl Drop for Search {
 
 /// A run that must not go through billions of numbers.
 fn soon(words: &[&str]) -> Said {
-    Command::new("timeout").arg("60").arg(program()).args(words).output().expect("it runs").into()
+    Command::new("timeout").arg("30").arg(program()).args(words).output().expect("it runs").into()
 }
 
 /// What is found stands there when the search is ended: one number of billions, long before the next.
