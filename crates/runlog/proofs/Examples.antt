@@ -39,6 +39,7 @@ examples =
     accepts three 3
     ∷ accepts none 0
     ∷ accepts (log 0 4294967295 (4294967295 ∷ []) (31 ∷ [])) 1
+    ∷ accepts (log 0 300 (5 ∷ 300 ∷ 300 ∷ []) (32 ∷ 33 ∷ 63 ∷ [])) 3
     -- 21: nothing, a byte short, no LF, a leading zero, no digit, a digit before a space, 11 columns over the cap
     ∷ refuses [] 21 0
     ∷ refuses (take 27 none) 21 0
@@ -63,18 +64,18 @@ examples =
     ∷ refuses (set three 56 111) 24 2
     ∷ refuses (set three 52 32) 24 2
     ∷ refuses (log 5 300 (5 ∷ 4294967296 ∷ 300 ∷ []) (31 ∷ 0 ∷ 3 ∷ [])) 24 2
-    ∷ refuses (set (log 5 300 (5 ∷ 4 ∷ 300 ∷ []) (31 ∷ 32 ∷ 3 ∷ [])) 57 32) 24 2
-    -- 25: the event after 31; before 26
-    ∷ refuses (log 5 300 (5 ∷ 300 ∷ 300 ∷ []) (32 ∷ 0 ∷ 3 ∷ [])) 25 1
-    ∷ refuses (log 5 300 (5 ∷ 4 ∷ 300 ∷ []) (31 ∷ 32 ∷ 3 ∷ [])) 25 2
+    ∷ refuses (set (log 5 300 (5 ∷ 4 ∷ 300 ∷ []) (31 ∷ 64 ∷ 3 ∷ [])) 57 32) 24 2
+    -- 25: the event after 63 (document 02, A1); before 26
+    ∷ refuses (log 5 300 (5 ∷ 300 ∷ 300 ∷ []) (64 ∷ 0 ∷ 3 ∷ [])) 25 1
+    ∷ refuses (log 5 300 (5 ∷ 4 ∷ 300 ∷ []) (31 ∷ 64 ∷ 3 ∷ [])) 25 2
     -- 26: below the start, below the line before but not below the start; a line is refused before the next is looked at
     ∷ refuses (log 6 300 (5 ∷ 300 ∷ 300 ∷ []) (31 ∷ 0 ∷ 3 ∷ [])) 26 1
     ∷ refuses (log 5 300 (5 ∷ 300 ∷ 299 ∷ []) (31 ∷ 0 ∷ 3 ∷ [])) 26 3
-    ∷ refuses (log 5 300 (5 ∷ 4 ∷ 300 ∷ []) (31 ∷ 0 ∷ 32 ∷ [])) 26 2
+    ∷ refuses (log 5 300 (5 ∷ 4 ∷ 300 ∷ []) (31 ∷ 0 ∷ 64 ∷ [])) 26 2
     -- 27: below the last tick, and below the start where there are no lines; last of all
     ∷ refuses (log 5 299 (5 ∷ 300 ∷ 300 ∷ []) (31 ∷ 0 ∷ 3 ∷ [])) 27 0
     ∷ refuses (log 7 6 [] []) 27 0
-    ∷ refuses (log 5 299 (5 ∷ 300 ∷ 300 ∷ []) (31 ∷ 0 ∷ 32 ∷ [])) 25 3
+    ∷ refuses (log 5 299 (5 ∷ 300 ∷ 300 ∷ []) (31 ∷ 0 ∷ 64 ∷ [])) 25 3
     ∷ []
 
 -- the inner answer, and the number and the count that the operation gives

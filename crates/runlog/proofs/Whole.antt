@@ -214,7 +214,7 @@ module _ (s : List ℕ) (e : answer s .refusal ≡ 0) where
   unfolding taken
   taken-lines = simp (eq-eqb (headOf s .refusal) 0 first-passed)
 
-  -- THE THEOREM: n lines, with events below 32, their ticks in order, and no other text
+  -- THE THEOREM: n lines, with known events, their ticks in order, and no other text
   pub accepted-log : Lines s 0 (headOf s .n) (headOf s .start) (taken s)
   accepted-log = subst (Lines s 0 (headOf s .n) (headOf s .start)) taken-lines
       (fine s (headOf s .n) 0 (headOf s .start) (omega (arith, first-accepted .length)) (ap (λ (t : Taken). t .number) taken-lines ∙ all-closed .number))

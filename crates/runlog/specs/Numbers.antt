@@ -37,7 +37,7 @@ wrong-length = 23
 abbrev pub line-malformed : ℕ
 line-malformed = 24
 
--- 25 event over 31
+-- 25 event over 63 (document 02, A1)
 abbrev pub event-unknown : ℕ
 event-unknown = 25
 

@@ -13,10 +13,10 @@ ghost use Rattle.runlog.specs.Held.{Events, part, bare, tickOf, gap, nea
 // Document 01's limits, and the bytes of the first line and of a line.
 const MOST_LINES: u32 = 4000;
 
-const LAST_EVENT: u32 = 31;
+const LAST_EVENT: u32 = 63;
 
-// The set of all events, 0 to 31: the sum of 2^e over them.
-pub const FULL_SET: u32 = 4294967295;
+// The set of all events, 0 to 63: the sum of 2^e over them.
+pub const FULL_SET: u64 = 18446744073709551615;
 
 // Room for 4,000 lines by position: ticks with the start at 0 and the close past the last line, events with index 0 not used.
 pub const TICKS_ROOM: usize = 4002;
@@ -323,17 +323,17 @@ fn tick_at(ticks: &[u32], n: u32, x: u32) -> u32
     ticks[i]
 }
 
-fn apart(x: u32, y: u32) -> u64
+fn apart(x: u32, y: u32) -> u32
     ensures { λ r. ⌜ r ≡ gap x y ⌝ }
 {
     if x < y {
-        return (y - x) as u64;
+        return y - x;
     }
-    (x - y) as u64
+    x - y
 }
 
 // Whether the distance of the ticks of positions x and y is from lo to hi.
-pub fn near(ticks: &[u32], n: u32, x: u32, y: u32, lo: u64, hi: u64) -> bool
+pub fn near(ticks: &[u32], n: u32, x: u32, y: u32, lo: u32, hi: u32) -> bool
     requires { ⌜ (n + 1 < length (now ticks)) × (n ≤ most-lines) ⌝ }
     ensures { λ r. ⌜ r ≡ nearOf (now (ticks .entry)) n x y lo hi ⌝ }
 {

@@ -1,4 +1,4 @@
--- Document 01's examples that need no bytes, as one table, computed by the definitions.
+-- Document 01's examples that need no bytes, with what document 02 changes, as one table, computed by the definitions.
 -- Assumes nothing.
 use mathlib.Core.Path.{_≡_, refl}
 use mathlib.Core.Bool.{Bool, true, false, _&&_}
@@ -7,13 +7,13 @@ use Prim.Native.Nat.{ℕ}
 use native.Mathlib.Omega.{arith}
 use lib.ListN.{length}
 use lib.Dec.{eqb}
-use Rattle.scenario.specs.Rows.{Row, Run, point, next, last, earlier, before, same, free, within, event, complement, between, below, clear, meets, points, elem, brings, closure, end, denying-free, far-end, denying-rows, denials}
+use Rattle.scenario.specs.Rows.{Row, Run, point, next, last, earlier, before, same, free, within, event, set-of, lower-half, upper-half, complement, between, below, clear, meets, points, elem, brings, closure, end, denying-free, far-end, denying-rows, denials}
 use Rattle.scenario.specs.Sheet.{Sheet, lookup, env, all, flat, is-line, matching, choices, total, choose, count, chosen, antiscenario, Answer, nothing, found, Demand}
 use Rattle.scenario.specs.Log.{Log, inSet, hasAt, tick, nearAt, runOf}
 use Rattle.scenario.specs.Walk.{placing, lowest-above, highest-below, advance, walk}
 use Rattle.scenario.specs.Search.{sweep, least, smallest-matching, is-violating, check, faults}
 use Rattle.scenario.specs.Fields.{fields, Tagged, tagged, written}
-use Rattle.scenario.specs.Reading.{SheetRead, antecedent, own}
+use Rattle.scenario.specs.Reading.{LogRead, SheetRead, antecedent, own}
 use Rattle.scenario.proofs.Final.{demand-three}
 
 -- Sheets and logs. Events: 1 injection, 2 correction, 3 scan.
@@ -49,6 +49,16 @@ chained = record {
   consequents = (next 11 1 4 ∷ next 12 1 2 ∷ earlier 13 11 12 ∷ next 14 1 1 ∷ event 12 4 ∷ event 13 4 ∷ []) ∷ [];
 }
 
+-- A1: event 33 of a newer board, which has not event 0; and a rule with the upper half in each kind that has a set: events 32, 33, 40 and 63
+upper-event : Sheet
+upper-event = record { antecedent = point 1 8589934592 ∷ []; consequents = (event 1 1 ∷ []) ∷ [] }
+
+newer-board : Sheet
+newer-board = record {
+  antecedent = point 1 8589934592 ∷ [];
+  consequents = (last 11 1 4294967296 ∷ free 11 1 1099511627776 ∷ next 12 1 9223372036854775808 ∷ event 12 9223372036854775809 ∷ []) ∷ [];
+}
+
 -- two consequents of two denials
 two-by-two : Sheet
 two-by-two = record { antecedent = point 1 8 ∷ point 2 8 ∷ []; consequents = (before 1 2 ∷ []) ∷ (before 2 1 ∷ []) ∷ [] }
@@ -62,6 +72,15 @@ three-lines t = log t (100 ∷ 300 ∷ t ∷ []) (2 ∷ 3 ∷ 3 ∷ [])
 
 one-scan : Log
 one-scan = log 10 (10 ∷ []) (3 ∷ [])
+
+one-upper : Log
+one-upper = log 10 (10 ∷ []) (33 ∷ [])
+
+board-kept : Log
+board-kept = log 40 (10 ∷ 20 ∷ 30 ∷ 40 ∷ []) (40 ∷ 32 ∷ 33 ∷ 63 ∷ [])
+
+board-broken : Log
+board-broken = log 40 (10 ∷ 20 ∷ 30 ∷ 40 ∷ []) (32 ∷ 40 ∷ 33 ∷ 63 ∷ [])
 
 no-lines : Log
 no-lines = log 0 [] []
@@ -151,14 +170,31 @@ cases =
     ∷ is (rows-of two-by-two 2)
     ((0 ∷ 1 ∷ 1 ∷ 0 ∷ 8 ∷ 0 ∷ []) ∷ (0 ∷ 1 ∷ 2 ∷ 0 ∷ 8 ∷ 0 ∷ []) ∷ (1 ∷ 6 ∷ 2 ∷ 1 ∷ 0 ∷ 0 ∷ []) ∷ (2 ∷ 8 ∷ 2 ∷ 1 ∷ 0 ∷ 0 ∷ []) ∷ [])
     ∷ is (count-of chained) ((5 ∷ []) ∷ [])
-    ∷ is (rows-of chained 4) ((0 ∷ 1 ∷ 1 ∷ 0 ∷ 8 ∷ 0 ∷ []) ∷ (1 ∷ 2 ∷ 12 ∷ 1 ∷ 2 ∷ 0 ∷ []) ∷ (1 ∷ 12 ∷ 12 ∷ 0 ∷ 4294967291 ∷ 0 ∷ []) ∷ [])
+    ∷ is (rows-of chained 4) ((0 ∷ 1 ∷ 1 ∷ 0 ∷ 8 ∷ 0 ∷ []) ∷ (1 ∷ 2 ∷ 12 ∷ 1 ∷ 2 ∷ 0 ∷ []) ∷ (1 ∷ 12 ∷ 12 ∷ 0 ∷ 4294967291 ∷ 4294967295 ∷ []) ∷ [])
     ∷ is (rows-of chained 5)
     ((0 ∷ 1 ∷ 1 ∷ 0 ∷ 8 ∷ 0 ∷ [])
     ∷ (1 ∷ 2 ∷ 11 ∷ 1 ∷ 4 ∷ 0 ∷ [])
     ∷ (1 ∷ 2 ∷ 12 ∷ 1 ∷ 2 ∷ 0 ∷ [])
     ∷ (1 ∷ 4 ∷ 13 ∷ 11 ∷ 12 ∷ 0 ∷ [])
-    ∷ (1 ∷ 12 ∷ 13 ∷ 0 ∷ 4294967291 ∷ 0 ∷ [])
+    ∷ (1 ∷ 12 ∷ 13 ∷ 0 ∷ 4294967291 ∷ 4294967295 ∷ [])
     ∷ [])
+    ∷ is (rows-of upper-event 1) ((0 ∷ 1 ∷ 1 ∷ 0 ∷ 0 ∷ 2 ∷ []) ∷ (1 ∷ 12 ∷ 1 ∷ 0 ∷ 4294967294 ∷ 4294967295 ∷ []) ∷ [])
+    ∷ is (check-of upper-event one-upper) ((1 ∷ []) ∷ (1 ∷ []) ∷ (2 ∷ []) ∷ [])
+    ∷ is (search-of upper-event 1 one-upper) ((1 ∷ []) ∷ [])
+    ∷ is (rows-of newer-board 1) ((0 ∷ 1 ∷ 1 ∷ 0 ∷ 0 ∷ 2 ∷ []) ∷ (1 ∷ 9 ∷ 0 ∷ 1 ∷ 0 ∷ 1 ∷ []) ∷ [])
+    ∷ is (rows-of newer-board 2)
+    ((0 ∷ 1 ∷ 1 ∷ 0 ∷ 0 ∷ 2 ∷ [])
+    ∷ (1 ∷ 3 ∷ 11 ∷ 1 ∷ 0 ∷ 1 ∷ [])
+    ∷ (1 ∷ 1 ∷ 19 ∷ 0 ∷ 0 ∷ 256 ∷ [])
+    ∷ (1 ∷ 6 ∷ 11 ∷ 19 ∷ 0 ∷ 0 ∷ [])
+    ∷ (1 ∷ 6 ∷ 19 ∷ 1 ∷ 0 ∷ 0 ∷ [])
+    ∷ [])
+    ∷ is (rows-of newer-board 4) ((0 ∷ 1 ∷ 1 ∷ 0 ∷ 0 ∷ 2 ∷ []) ∷ (1 ∷ 9 ∷ 1 ∷ 99 ∷ 0 ∷ 2147483648 ∷ []) ∷ [])
+    ∷ is (rows-of newer-board 5)
+    ((0 ∷ 1 ∷ 1 ∷ 0 ∷ 0 ∷ 2 ∷ []) ∷ (1 ∷ 2 ∷ 12 ∷ 1 ∷ 0 ∷ 2147483648 ∷ []) ∷ (1 ∷ 12 ∷ 12 ∷ 0 ∷ 4294967294 ∷ 2147483647 ∷ []) ∷ [])
+    ∷ is (check-of newer-board board-kept) ((0 ∷ []) ∷ [])
+    ∷ is (check-of newer-board board-broken) ((1 ∷ []) ∷ (3 ∷ []) ∷ (3 ∷ []) ∷ [])
+    ∷ is (search-of newer-board 2 board-broken) ((3 ∷ 1 ∷ 2 ∷ []) ∷ [])
     ∷ []
 
 same-line : (xs ys : List ℕ) → Bool
@@ -178,9 +214,9 @@ passes c = same-lines (answer (c .question)) (c .expected)
 
 -- Every case of the table is as document 01 says.
 examples : all passes cases ≡ true
-unfolding cases passes same-lines same-line is answer check-lines search-lines row-line S no-rows empty-consequent two-scans four-denials five-denials six two-by-two chained
-    log three-lines one-scan no-lines injected soon late-start fields tagged written count chosen antiscenario choose flat total choices denials far-end denying-rows denying-free end
-    closure brings elem complement smallest-matching check is-violating faults walk advance placing lowest-above highest-below least sweep
+unfolding cases passes same-lines same-line is answer check-lines search-lines row-line S no-rows empty-consequent two-scans four-denials five-denials six two-by-two chained upper-event newer-board
+    log three-lines one-scan one-upper board-kept board-broken no-lines injected soon late-start fields tagged written count chosen antiscenario choose flat total choices denials far-end denying-rows denying-free end
+    closure brings elem complement set-of lower-half upper-half smallest-matching check is-violating faults walk advance placing lowest-above highest-below least sweep
     matching all is-line meets env lookup points clear below between inSet hasAt tick nearAt
 examples = refl
 
@@ -216,3 +252,12 @@ S-read = record {
 S-demand : (t : ℕ) → Demand (runOf (three-lines t)) S (check (runOf (three-lines t)) S) (λ m. smallest-matching (runOf (three-lines t)) (antiscenario S m))
 unfolding three-lines log
 S-demand t = demand-three (three-lines t) (omega arith, (omega arith, (omega arith, tt))) S S-read
+
+-- A1: "so event 32 is accepted and 64 is not".
+event-32 : LogRead (log 0 (0 ∷ []) (32 ∷ []))
+unfolding log
+event-32 = (omega arith, tt)
+
+event-64 : LogRead (log 0 (0 ∷ []) (64 ∷ [])) → ⊥
+unfolding log
+event-64 h = omega (arith, h .0)

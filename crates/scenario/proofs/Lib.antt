@@ -16,6 +16,7 @@ pub mod Demand
 pub mod Least
 pub mod Whole
 -- Sheets and logs that are read.
+pub mod Halves
 pub mod Logs
 pub mod Reading
 pub mod Final

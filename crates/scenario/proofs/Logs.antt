@@ -8,11 +8,12 @@ use native.Mathlib.Nat.{div-div-eq-div-mul, div-one, pow-succ'}
 use mathlib.Core.Logic.{⊎-elim}
 use lib.ListN.{length, getD}
 use lib.Dec.{leb, eqb, leb→le, le→leb, eqb→eq}
-use Rattle.scenario.specs.Rows.{event-count, full-set, complement}
+use Rattle.scenario.specs.Rows.{event-count, full-set}
 use Rattle.scenario.specs.Log.{Log, inSet, hasAt, runOf}
 use Rattle.scenario.proofs.Base.{both, tell, is-true, is-false, eq→eqb, neq→neqb, neqb→neq, all-getD}
 use Rattle.scenario.specs.Reading.{IsEvents, LogRead}
 use Rattle.scenario.proofs.Rules.{Laws}
+use Rattle.scenario.proofs.Halves.{complement-whole}
 
 inSet-zero : (s : ℕ) → inSet s 0 ≡ eqb (s % 2) 1
 unfolding inSet
@@ -58,11 +59,12 @@ inSet-full e h = inSet-complement e event-count 0 h (omega arith) ∙ ap not (in
 
 -- The laws of a log that is read.
 pub laws : (g : Log) → LogRead g → Laws (runOf g)
-unfolding hasAt complement IsEvents
+unfolding hasAt IsEvents
 laws g h = record {
   line = λ s x t. let a = both (leb 1 x && leb x (length (g .events))) (inSet s (getD (g .events) (x - 1) 0)) t in
       let b = both (leb 1 x) (leb x (length (g .events))) (a .0) in (leb→le 1 x (b .0), leb→le x (length (g .events)) (b .1));
   other = λ s x i o.
       rw (is-true (leb 1 x) (le→leb 1 x (o .0)), is-true (leb x (length (g .events))) (le→leb x (length (g .events)) (o .1)))
-      (inSet-complement (getD (g .events) (x - 1) 0) event-count s (all-getD (λ (e : ℕ). e < event-count) 0 (g .events) h (x - 1) (omega arith)) (omega arith));
+      (ap (λ (c : ℕ). inSet c (getD (g .events) (x - 1) 0)) (complement-whole s i)
+      ∙ inSet-complement (getD (g .events) (x - 1) 0) event-count s (all-getD (λ (e : ℕ). e < event-count) 0 (g .events) h (x - 1) (omega arith)) (omega arith));
 }

@@ -9,25 +9,26 @@ use native.Mathlib.Omega.{arith}
 use lib.Dec.{leb, eqb, eqb-refl}
 use borrow.Author.Tests.{lt-leb}
 use Rattle.scenario.specs.Rows.{Row, point, next, last, earlier, later, before, apart, same, free, within, outside, event, Run, Env, meets, introduced, needs}
-use Rattle.scenario.specs.Fields.{fields, decode}
+use Rattle.scenario.specs.Fields.{fields, decode, rowOf}
 use Rattle.scenario.specs.Reading.{All}
 use Rattle.scenario.proofs.Base.{is-true}
+use Rattle.scenario.proofs.Halves.{set-of-halves}
 
 -- a row's numbers give the row back
-pub decode-fields : (r : Row) → decode (fields r .kind) (fields r .p) (fields r .q) (fields r .a) (fields r .b) ≡ r
+pub decode-fields : (r : Row) → rowOf (fields r .kind) (fields r .p) (fields r .q) (fields r .a) (fields r .b) ≡ r
 unfolding decode fields
-decode-fields (point p s) = refl
-decode-fields (next p q s) = refl
-decode-fields (last p q s) = refl
+decode-fields (point p s) = ap (point p) (set-of-halves s)
+decode-fields (next p q s) = ap (next p q) (set-of-halves s)
+decode-fields (last p q s) = ap (last p q) (set-of-halves s)
 decode-fields (earlier p q a) = refl
 decode-fields (later p q a) = refl
 decode-fields (before p q) = refl
 decode-fields (apart p q) = refl
 decode-fields (same p q) = refl
-decode-fields (free p q s) = refl
+decode-fields (free p q s) = ap (free p q) (set-of-halves s)
 decode-fields (within p q lo hi) = refl
 decode-fields (outside p q lo hi) = refl
-decode-fields (event p s) = refl
+decode-fields (event p s) = ap (event p) (set-of-halves s)
 
 -- by kind: 0, 1 to 12, and above
 pub any-kind : (P : ℕ → Type 0) → P 0 → P 1 → P 2 → P 3 → P 4 → P 5 → P 6 → P 7 → P 8 → P 9 → P 10 → P 11 → P 12
@@ -48,9 +49,9 @@ any-kind P z a b c d e f g h i j l m n (suc (suc (suc (suc (suc (suc (suc (suc (
 any-kind P z a b c d e f g h i j l m n (suc (suc (suc (suc (suc (suc (suc (suc (suc (suc (suc (suc (suc k))))))))))))) = n k
 
 -- a row of an unknown kind is never met
-module _ (run : Run) (e : Env) (p q a b : ℕ) where
+module _ (run : Run) (e : Env) (p q a b s : ℕ) where
   abbrev Unmet : ℕ → Type 0
-  Unmet k = (1 ≤ k → k ≤ 12 → ⊥) → meets run e (decode k p q a b) ≡ false
+  Unmet k = (1 ≤ k → k ≤ 12 → ⊥) → meets run e (decode k p q a b s) ≡ false
 
   never : meets run e (apart 0 0) ≡ false
   unfolding meets
@@ -67,9 +68,9 @@ module _ (run : Run) (e : Env) (p q a b : ℕ) where
       (λ k n. never)
 
 -- kinds 1 to 5 introduce p
-module _ (p q a b : ℕ) where
+module _ (p q a b s : ℕ) where
   abbrev Introduced : ℕ → Type 0
-  Introduced k = introduced (decode k p q a b) ≡ cond (leb 1 k && leb k 5) (p ∷ []) []
+  Introduced k = introduced (decode k p q a b s) ≡ cond (leb 1 k && leb k 5) (p ∷ []) []
 
   pub introduced-is : (k : ℕ) → Introduced k
   unfolding decode
@@ -78,9 +79,9 @@ module _ (p q a b : ℕ) where
       (λ k. rw (lt-leb (suc (suc (suc (suc (suc (suc (suc (suc (suc (suc (suc (suc (suc k))))))))))))) 5 (omega arith), and-false))
 
 -- every point that a row uses is one of these
-module _ (Q : ℕ → Type 0) (p q a b : ℕ) (P₁ : Q p) (Q₁ : Q q) (Z : Q 0) where
+module _ (Q : ℕ → Type 0) (p q a b s : ℕ) (P₁ : Q p) (Q₁ : Q q) (Z : Q 0) where
   abbrev pub uses : ℕ → Type 0
-  uses k = (k ≡ 4 → Q a) → (k ≡ 5 → Q a) → All Q (introduced (decode k p q a b) ++ needs (decode k p q a b))
+  uses k = (k ≡ 4 → Q a) → (k ≡ 5 → Q a) → All Q (introduced (decode k p q a b s) ++ needs (decode k p q a b s))
 
   pub uses-all : (k : ℕ) → uses k
   unfolding decode

@@ -20,11 +20,11 @@ abbrev pub Distinct : List ℕ → Type 0
 Distinct [] = Unit {0}
 Distinct (p ∷ ps) = (T (elem p ps) → ⊥) × Distinct ps
 
--- "25 event over 31" was not refused
+-- document 02, A1: "Refusal 25 is for events over 63", and was not given
 abbrev pub LogRead : Log → Type 0
 LogRead log = All (λ (e : ℕ). e < event-count) (log .events)
 
--- a set of events that a field can hold
+-- a set of events that two fields can hold, a half in each
 unfoldable pub IsEvents : ℕ → Type 0
 IsEvents s = s ≤ full-set
 

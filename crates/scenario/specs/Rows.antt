@@ -2,7 +2,7 @@
 -- Assumes nothing.
 use mathlib.Core.Bool.{Bool, false, not, _&&_, _||_, cond}
 use mathlib.Core.List.{List, [], _∷_, _++_, map}
-use Prim.Native.Nat.{ℕ, zero, suc, _+_, _-_, min, max}
+use Prim.Native.Nat.{ℕ, zero, suc, _+_, _-_, _*_, _/_, _%_, min, max}
 use lib.Dec.{ltb, eqb}
 
 -- "1 POINT .. 12 EVENT": a row, a constructor to a kind, in the order of the numbers. p and q are point numbers, and so is a of EARLIER and LATER;
@@ -17,12 +17,25 @@ pub data Row : Type 0 where
   within outside : (p q lo hi : ℕ) → Row
   event : (p s : ℕ) → Row
 
--- "Events are 0 to 31", "a set of events is the sum of 2^e over its events e": how many there are, and the set of all. Nothing else says so.
+-- Document 02, A1: "event numbers up to 63"; "a set of events is the sum of 2^e over its events e": how many there are, and the set of all. Nothing else says so.
 abbrev pub event-count : ℕ
-event-count = 32
+event-count = 64
 
 abbrev pub full-set : ℕ
-full-set = 4294967295
+full-set = 18446744073709551615
+
+-- A1: "the set is a + 2^32 × b": the set of two halves, the lower and the upper half of a set, and the half that is full
+unfoldable pub set-of : (a b : ℕ) → ℕ
+set-of a b = a + 4294967296 * b
+
+unfoldable pub lower-half : ℕ → ℕ
+lower-half s = s % 4294967296
+
+unfoldable pub upper-half : ℕ → ℕ
+upper-half s = s / 4294967296
+
+abbrev pub full-half : ℕ
+full-half = 4294967295
 
 -- "0 is the start and 99 the close"
 abbrev pub close-point : ℕ
@@ -123,9 +136,9 @@ unfoldable pub closure : (passed : List Row) (used : List ℕ) → List Row
 closure [] used = []
 closure (row ∷ passed) used = cond (brings (introduced row) used) (closure passed (needs row ++ used) ++ (row ∷ [])) (closure passed used)
 
--- "EVENT: with the set 4,294,967,295 − a"
+-- A1: "EVENT is denied by taking both halves from 4,294,967,295." proofs/Halves: that is the full set without s.
 unfoldable pub complement : ℕ → ℕ
-complement s = full-set - s
+complement s = set-of (full-half - lower-half s) (full-half - upper-half s)
 
 -- a point is 0, 99 or ordinary
 pub data End : Type 0 where
