@@ -29,9 +29,14 @@ pub lower-half-fits : (s : ℕ) → lower-half s ≤ full-half
 unfolding lower-half
 lower-half-fits s = omega arith
 
-pub upper-half-fits : (s : ℕ) → IsEvents s → upper-half s ≤ full-half
-unfolding upper-half IsEvents
+pub upper-half-fits : (s : ℕ) → s ≤ full-set → upper-half s ≤ full-half
+unfolding upper-half
 upper-half-fits s h = omega arith
+
+-- and what two fields hold is one
+pub halves-fit : (s : ℕ) → upper-half s ≤ full-half → s ≤ full-set
+unfolding upper-half
+halves-fit s h = omega arith
 
 -- "It is empty when both are 0."
 pub empty-halves : (a b : ℕ) → set-of a b ≡ 0 → (a ≡ 0) × (b ≡ 0)

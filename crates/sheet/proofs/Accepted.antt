@@ -8,9 +8,8 @@ use native.Mathlib.Omega.{arith}
 use lib.ListN.{length, length-append}
 use lib.Dec.{eqb, leb}
 use borrow.Author.Tests.{eqb-true, leb-true, eq-eqb, ne-eqb}
-use Rattle.columns.specs.Number.{largest}
 use Rattle.scenario.specs.Rows.{Row, introduced, needs, points}
-use Rattle.scenario.specs.Fields.{decode}
+use Rattle.scenario.specs.Fields.{rowOf}
 use Rattle.scenario.specs.Reading.{All, Seen, first, final, antecedent as seen-antecedent, own as seen-own, Counted, RowRead, RowsRead, SectionsRead, SheetRead}
 use Rattle.scenario.proofs.Base.{all-map, Order, lower, level, upper, order}
 use Rattle.scenario.proofs.Reading.{short}
@@ -18,6 +17,7 @@ use Rattle.sheet.specs.declared.Line.{Line}
 use Rattle.sheet.specs.declared.Stand.{Stand}
 use Rattle.sheet.specs.Row.{stand, start, enter, advance, sectionFits, kindFits, pFits, qFits, restFits, roomFits, unless, refusalWithin, refusal}
 use Rattle.sheet.specs.Reading.{after, rowIn, section, sections, sheetOf}
+use Rattle.sheet.specs.Text.{Fits}
 use Rattle.sheet.proofs.Points.{both-true, AnteRow, ante-row, cons-row, cons-next, ante-next}
 
 -- What a row that is not refused has passed
@@ -135,13 +135,13 @@ module _ (k : ℕ) (at : Stand) (l : Line) (P : Passes k at l) (z : l .section �
 
 -- An accepted row of a consequent
 module _ (k : ℕ) (k6 : k ≤ 6) (at : Stand) (l : Line) (P : Passes k at l) (s1 : 1 ≤ l .section) where
-  module _ (F : Fair at) (fits : l .a ≤ largest) where
+  module _ (F : Fair at) (fits : Fits l) where
     cons-line : RowRead (at .antecedent) (l .section) (enter at (l .section) .own) (rowIn l)
     unfolding rowIn
     cons-line =
-        subst (λ (a : ℕ). RowRead a (l .section) (enter at (l .section) .own) (decode (l .kind) (l .p) (l .q) (l .a) (l .b))) (enter-ante at (l .section))
+        subst (λ (a : ℕ). RowRead a (l .section) (enter at (l .section) .own) (rowOf (l .kind) (l .p) (l .q) (l .a) (l .b))) (enter-ante at (l .section))
         (cons-row (l .section) (enter at (l .section) .antecedent) (enter at (l .section) .own) s1 (omega (arith, P .top)) (omega (arith, enter-ante at (l .section), F .antecedent))
-        (enter-own at (l .section) (F .own)) (l .p) (l .q) (l .a) (l .b) fits (l .kind) (P .kind) (P .p) (P .q))
+        (enter-own at (l .section) (F .own)) (l .p) (l .q) (l .a) (l .b) (fits .a) (fits .b) (l .kind) (P .kind) (P .p) (P .q))
 
   pub cons-ante : after at l .antecedent ≡ at .antecedent
   unfolding after
@@ -152,7 +152,7 @@ module _ (k : ℕ) (k6 : k ≤ 6) (at : Stand) (l : Line) (P : Passes k at l) (s
   cons-own = cons-next (enter at (l .section)) (l .p) (l .q) (l .a) (l .b) (l .section) s1 (l .kind) (P .kind) .1
 
 -- the bounds are kept
-module _ (k : ℕ) (k6 : k ≤ 6) (at : Stand) (l : Line) (P : Passes k at l) (F : Fair at) (fits : l .a ≤ largest) where
+module _ (k : ℕ) (k6 : k ≤ 6) (at : Stand) (l : Line) (P : Passes k at l) (F : Fair at) (fits : Fits l) where
   pub fair-after : Fair (after at l)
   fair-after = go (order (l .section) 0)
     where
@@ -176,7 +176,7 @@ module _ (k : ℕ) (k6 : k ≤ 6) (at : Stand) (l : Line) (P : Passes k at l) (F
 -- Rows that are accepted one after another
 abbrev pub Accepted : ℕ → Stand → List Line → Type 0
 Accepted k at [] = Unit {0}
-Accepted k at (l ∷ ls) = (refusal k at l ≡ 0) × ((l .a ≤ largest) × Accepted k (after at l) ls)
+Accepted k at (l ∷ ls) = (refusal k at l ≡ 0) × (Fits l × Accepted k (after at l) ls)
 
 -- a section of rows: one row more
 pub section-in : (i : ℕ) (l : Line) (ls : List Line) → l .section ≡ i → section i (l ∷ ls) ≡ rowIn l ∷ section i ls

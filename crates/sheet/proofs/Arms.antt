@@ -139,7 +139,7 @@ module _ (k q a b : ℕ) where
   unfolding restFits
   rest-10 lo hi = simp (ne-eqb k 1 (omega arith), lt-leb k 3 (omega arith), lt-leb k 5 (omega arith), lt-leb k 8 (omega arith), ne-eqb k 9 (omega arith), le-leb k 11 (omega arith))
 
-  pub rest-12 : k ≡ 12 → bothZero q b ≡ restFits k q a b
+  pub rest-12 : k ≡ 12 → eqb q 0 ≡ restFits k q a b
   unfolding restFits
   rest-12 e = rw e
 

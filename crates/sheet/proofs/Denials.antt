@@ -8,8 +8,8 @@ use native.Mathlib.Omega.{arith}
 use lib.ListN.{length, length-append, length-map}
 use lib.Dec.{eqb}
 use borrow.Author.Tests.{eqb-true, eqb-false, ne-eqb}
-use Rattle.scenario.specs.Rows.{Row, denying-rows, denying-free, end, closure, needs, denials, far-end}
-use Rattle.scenario.specs.Fields.{decode}
+use Rattle.scenario.specs.Rows.{Row, set-of, denying-rows, denying-free, end, closure, needs, denials, far-end}
+use Rattle.scenario.specs.Fields.{decode, rowOf}
 use Rattle.scenario.specs.Sheet.{choices, total, count}
 use Rattle.scenario.proofs.Numbers.{any-kind}
 use Rattle.sheet.specs.declared.Line.{Line}
@@ -37,12 +37,12 @@ module _ (r p q s : ℕ) where
 -- a row's denials
 module _ (z r : ℕ) where
   abbrev Weighs : (p q a b k : ℕ) → Type 0
-  Weighs p q a b k = length (denying-rows z r (decode k p q a b)) ≡ weight k p q
+  Weighs p q a b k = length (denying-rows z r (rowOf k p q a b)) ≡ weight k p q
 
   weighs : (p q a b k : ℕ) → Weighs p q a b k
   unfolding decode denying-rows weight
   weighs p q a b =
-      any-kind (Weighs p q a b) refl refl refl refl refl refl refl refl refl (free-weight r p q a) refl refl refl
+      any-kind (Weighs p q a b) refl refl refl refl refl refl refl refl refl (free-weight r p q (set-of a b)) refl refl refl
       (λ k. weight-high (suc (suc (suc (suc (suc (suc (suc (suc (suc (suc (suc (suc (suc k))))))))))))) p q (omega arith) (λ e. omega arith) (λ e. omega arith))
 
   pub line-weight : (l : Line) → length (denying-rows z r (rowIn l)) ≡ weight (l .kind) (l .p) (l .q)

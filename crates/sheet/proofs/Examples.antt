@@ -185,24 +185,26 @@ point-q =
 
 abbrev fields-used : List Case
 fields-used =
-    -- 9: an unused field that is not 0: q and b of POINT and EVENT, b of 2 to 5 and 9, a and b of 6 to 8
-    last 0 [] (six 0 1 1 0 8 0) 1 (six 0 1 1 1 8 0) 9
-    ∷ last 0 [] (six 0 1 1 0 8 0) 1 (six 0 1 1 0 8 1) 9
-    ∷ last 1 one (six 1 2 11 1 4 0) 1 (six 1 2 11 1 4 1) 9
-    ∷ last 1 one (six 1 3 11 1 4 0) 1 (six 1 3 11 1 4 1) 9
+    -- 9: an unused field that is not 0: q of POINT and EVENT, b of 4 and 5, a and b of 6 to 8. A1: b of 1, 2, 3, 9 and 12 is the upper half of the set
+    last 0 [] (six 0 1 1 0 8 1) 1 (six 0 1 1 1 8 0) 9
     ∷ last 1 two (six 1 4 11 1 2 0) 0 (six 1 4 11 1 2 1) 9
     ∷ last 1 two (six 1 5 11 1 2 0) 0 (six 1 5 11 1 2 1) 9
     ∷ last 0 two (six 0 6 1 2 0 0) 1 (six 0 6 1 2 1 0) 9
+    ∷ last 0 two (six 0 6 1 2 0 0) 1 (six 0 6 1 2 0 1) 9
     ∷ last 0 two (six 0 7 1 2 0 0) 1 (six 0 7 1 2 0 1) 9
     ∷ last 0 two (six 0 8 1 2 0 0) 1 (six 0 8 1 2 1 0) 9
-    ∷ last 0 [] (six 0 9 0 99 8 0) 1 (six 0 9 0 99 8 1) 9
-    ∷ last 0 two (six 0 12 1 0 8 0) 1 (six 0 12 1 2 8 0) 9
-    ∷ last 0 two (six 0 12 1 0 8 0) 1 (six 0 12 1 0 8 1) 9
-    -- an empty set, which EVENT alone may have
+    ∷ last 0 two (six 0 8 1 2 0 0) 1 (six 0 8 1 2 0 1) 9
+    ∷ last 0 two (six 0 12 1 0 8 1) 1 (six 0 12 1 2 8 0) 9
+    ∷ last 0 two (six 0 12 1 0 0 4294967295) 1 (six 0 12 1 2 0 1) 9
+    -- an empty set, which EVENT alone may have; a set in either half
     ∷ last 0 [] (six 0 1 1 0 1 0) 1 (six 0 1 1 0 0 0) 9
+    ∷ last 0 [] (six 0 1 1 0 0 1) 1 (six 0 1 1 1 0 1) 9
     ∷ last 1 one (six 1 2 11 1 1 0) 1 (six 1 2 11 1 0 0) 9
+    ∷ last 1 one (six 1 2 11 1 0 2147483648) 1 (six 1 2 11 1 0 0) 9
     ∷ last 1 one (six 1 3 11 1 1 0) 1 (six 1 3 11 1 0 0) 9
+    ∷ last 1 one (six 1 3 11 1 0 256) 1 (six 1 3 11 1 0 0) 9
     ∷ last 0 [] (six 0 9 0 99 1 0) 1 (six 0 9 0 99 0 0) 9
+    ∷ last 0 [] (six 0 9 0 99 0 1) 1 (six 0 9 0 99 0 0) 9
     ∷ last 0 one (six 0 12 1 0 0 0) 1 (six 0 9 0 1 0 0) 9
     -- a above b
     ∷ last 0 [] (six 0 10 0 99 5 5) 1 (six 0 10 0 99 6 5) 9
@@ -234,13 +236,13 @@ order-of-refusals =
     ∷ last 1 one (six 1 12 1 0 8 0) 1 (six 1 13 9 9 0 1) 6
     ∷ last 1 one (six 1 2 11 1 8 0) 1 (six 1 2 9 9 0 1) 7
     ∷ last 1 one (six 1 2 11 1 8 0) 1 (six 1 2 11 9 0 1) 8
-    ∷ bytes (sheetText 1 (replicate 24 (whole 1))) 24 (sheetText 1 (replicate 24 (whole 1) ++ (six 1 9 0 99 1 1 ∷ []))) 9 25
+    ∷ bytes (sheetText 1 (replicate 24 (whole 1))) 24 (sheetText 1 (replicate 24 (whole 1) ++ (six 1 9 0 99 0 0 ∷ []))) 9 25
     ∷ []
 
 abbrev table : List Case
 table = first-line ++ (row-form ++ (point-p ++ (point-q ++ (fields-used ++ (room-and-count ++ order-of-refusals)))))
 
-pub the-table-size : length table ≡ 110
+pub the-table-size : length table ≡ 112
 the-table-size = refl
 
 pub the-table : all-told table ≡ true

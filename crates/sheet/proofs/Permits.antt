@@ -5,16 +5,17 @@ use mathlib.Core.Path.{_≡_, refl, sym, ap, _∙_}
 use mathlib.Core.Logic.{inl, inr}
 use mathlib.Core.Bool.{Bool, true, false, not, _&&_, _||_}
 use mathlib.Core.List.{List, [], _∷_, _++_, append-nil}
-use Prim.Native.Nat.{ℕ, zero, suc, _+_, _*_, _≤_, _<_}
+use Prim.Native.Nat.{ℕ, zero, suc, _+_, _*_, _/_, _%_, _≤_, _<_}
 use native.Mathlib.Omega.{arith}
 use lib.ListN.{length}
 use lib.Dec.{T, eqb, leb, ltb}
 use borrow.Author.Tests.{eqb-true, eqb-false, leb-true, ltb-true, not-true, eq-eqb, ne-eqb, le-leb, lt-ltb}
-use Rattle.scenario.specs.Rows.{Row, point, next, last, earlier, later, before, apart, same, free, within, outside, event, introduced, points, elem}
+use Rattle.scenario.specs.Rows.{Row, point, next, last, earlier, later, before, apart, same, free, within, outside, event, full-set, lower-half, upper-half, introduced, points, elem}
 use Rattle.scenario.specs.Fields.{Tagged, fields}
 use Rattle.scenario.specs.Reading.{Ordinary, Counted, Seen, first, final, antecedent as seen-antecedent, own as seen-own}
 use Rattle.scenario.proofs.Base.{elem-at, Order, lower, level, upper, order}
 use Rattle.scenario.proofs.Reading.{counted-in, counted-all}
+use Rattle.scenario.proofs.Halves.{lower-half-fits, upper-half-fits, halves-fit}
 use Rattle.sheet.specs.declared.Line.{Line}
 use Rattle.sheet.specs.Row.{ordinary, known, isDue, knownBut, ordinaryBut, bothOrdinary, kindFits, pFits, originFits, qFits, setOnly, bothZero, restFits}
 use Rattle.sheet.specs.Text.{Fits, numbersOf}
@@ -193,13 +194,19 @@ module _ (front : List Tagged) (i a c : ℕ) (F : Found front i a c) where
 
   -- Sets
 
-  set-in : (s : ℕ) → SomeEvents s → setOnly 0 s 0 ≡ true
-  unfolding setOnly
-  set-in s E = simp (ne-eqb s 0 (E .non-empty))
+  -- "It is empty when both are 0."
+  set-in : (s : ℕ) → SomeEvents s → setOnly 0 (lower-half s) (upper-half s) ≡ true
+  unfolding setOnly bothZero lower-half upper-half
+  set-in s E = go (eqb (s % 4294967296) 0) (eqb (s / 4294967296) 0) refl refl
+    where
+      go : (x y : Bool) → eqb (s % 4294967296) 0 ≡ x → eqb (s / 4294967296) 0 ≡ y → not (x && y) ≡ true
+      go true true ex ey = absurd (E .non-empty (omega (arith, eqb-true (s % 4294967296) 0 ex, eqb-true (s / 4294967296) 0 ey)))
+      go true false ex ey = refl
+      go false y ex ey = refl
 
-  set-out : (s : ℕ) → s ≤ 4294967295 → setOnly 0 s 0 ≡ true → SomeEvents s
-  unfolding setOnly
-  set-out s h e = record { fits = h; non-empty = differ s 0 (both-true (not (eqb s 0)) true e .0) }
+  set-out : (s : ℕ) → upper-half s ≤ 4294967295 → setOnly 0 (lower-half s) (upper-half s) ≡ true → SomeEvents s
+  unfolding setOnly bothZero lower-half upper-half
+  set-out s h e = record { fits = omega arith; non-empty = λ z. never (rw z at e) }
 
   -- The row's tests
   pub record Tests (l : Line) : Type 0 where
@@ -228,18 +235,18 @@ module _ (front : List Tagged) (i a c : ℕ) (F : Found front i a c) where
 
   pub permitted : (r : Row) → Fits (numbers r) → Tests (numbers r) → Permitted front i r
   unfolding numbersOf fields kindFits pFits qFits originFits restFits bothZero
-  permitted (point p s) N t = let z = eqb-true i 0 (t .kind) in (z, first-out z p (t .p), set-out s (N .a) (t .rest))
-  permitted (next p q s) N t = let h = ltb-true 0 i (t .kind) in let k = known-but-out q 99 (t .q) in (h, next-out h p (t .p), k .0, k .1, set-out s (N .a) (t .rest))
-  permitted (last p q s) N t = let h = ltb-true 0 i (t .kind) in let k = known-but-out q 0 (t .q) in (h, next-out h p (t .p), k .0, k .1, set-out s (N .a) (t .rest))
+  permitted (point p s) N t = let z = eqb-true i 0 (t .kind) in (z, first-out z p (t .p), set-out s (N .b) (t .rest))
+  permitted (next p q s) N t = let h = ltb-true 0 i (t .kind) in let k = known-but-out q 99 (t .q) in (h, next-out h p (t .p), k .0, k .1, set-out s (N .b) (t .rest))
+  permitted (last p q s) N t = let h = ltb-true 0 i (t .kind) in let k = known-but-out q 0 (t .q) in (h, next-out h p (t .p), k .0, k .1, set-out s (N .b) (t .rest))
   permitted (earlier p q x) N t = let h = ltb-true 0 i (t .kind) in (h, next-out h p (t .p), both-out q x (t .q))
   permitted (later p q x) N t = let h = ltb-true 0 i (t .kind) in (h, next-out h p (t .p), both-out q x (t .q))
   permitted (before p q) N t = pair-out p q (t .p) (t .q)
   permitted (apart p q) N t = pair-out p q (t .p) (t .q)
   permitted (same p q) N t = pair-out p q (t .p) (t .q)
-  permitted (free p q s) N t = (known-pair-out p q (t .p) (t .q), set-out s (N .a) (t .rest))
+  permitted (free p q s) N t = (known-pair-out p q (t .p) (t .q), set-out s (N .b) (t .rest))
   permitted (within p q lo hi) N t = (known-pair-out p q (t .p) (t .q), record { ascend = leb-true lo hi (t .rest); fits = N .b })
   permitted (outside p q lo hi) N t = (known-pair-out p q (t .p) (t .q), record { ascend = leb-true lo hi (t .rest); fits = N .b })
-  permitted (event p s) N t = (ordinary-out p (t .p), N .a)
+  permitted (event p s) N t = (ordinary-out p (t .p), halves-fit s (N .b))
 
   -- The row's numbers fit their columns
 
@@ -272,20 +279,24 @@ module _ (front : List Tagged) (i a c : ℕ) (F : Found front i a c) where
   abbrev fit : (kind p q x y : ℕ) → kind < 1000 → p < 1000 → q < 1000 → x ≤ 4294967295 → y ≤ 4294967295 → Fits (record { section = i; kind = kind; p = p; q = q; a = x; b = y })
   fit kind p q x y hk hp hq hx hy = record { section = omega (arith, F .low); kind = hk; p = hp; q = hq; a = hx; b = hy }
 
+  abbrev fit-set : (kind p q s : ℕ) → kind < 1000 → p < 1000 → q < 1000 → s ≤ full-set
+      → Fits (record { section = i; kind = kind; p = p; q = q; a = lower-half s; b = upper-half s })
+  fit-set kind p q s hk hp hq hs = fit kind p q (lower-half s) (upper-half s) hk hp hq (lower-half-fits s) (upper-half-fits s hs)
+
   pub fitting : (r : Row) → Permitted front i r → Fits (numbers r)
   unfolding numbersOf fields
-  fitting (point p s) P = fit 1 p 0 s 0 (omega arith) (due-low p (P .1)) (omega arith) (P .2 .fits) (omega arith)
-  fitting (next p q s) P = fit 2 p q s 0 (omega arith) (due-low p (P .1)) (known-low q (P .2)) (P .4 .fits) (omega arith)
-  fitting (last p q s) P = fit 3 p q s 0 (omega arith) (due-low p (P .1)) (known-low q (P .2)) (P .4 .fits) (omega arith)
+  fitting (point p s) P = fit-set 1 p 0 s (omega arith) (due-low p (P .1)) (omega arith) (P .2 .fits)
+  fitting (next p q s) P = fit-set 2 p q s (omega arith) (due-low p (P .1)) (known-low q (P .2)) (P .4 .fits)
+  fitting (last p q s) P = fit-set 3 p q s (omega arith) (due-low p (P .1)) (known-low q (P .2)) (P .4 .fits)
   fitting (earlier p q x) P = let h = ordinary-low x (P .2 .second) in fit 4 p q x 0 (omega arith) (due-low p (P .1)) (ordinary-low q (P .2 .first)) (omega arith) (omega arith)
   fitting (later p q x) P = let h = ordinary-low x (P .2 .second) in fit 5 p q x 0 (omega arith) (due-low p (P .1)) (ordinary-low q (P .2 .first)) (omega arith) (omega arith)
   fitting (before p q) P = fit 6 p q 0 0 (omega arith) (ordinary-low p (P .first)) (ordinary-low q (P .second)) (omega arith) (omega arith)
   fitting (apart p q) P = fit 7 p q 0 0 (omega arith) (ordinary-low p (P .first)) (ordinary-low q (P .second)) (omega arith) (omega arith)
   fitting (same p q) P = fit 8 p q 0 0 (omega arith) (ordinary-low p (P .first)) (ordinary-low q (P .second)) (omega arith) (omega arith)
-  fitting (free p q s) P = fit 9 p q s 0 (omega arith) (known-low p (P .0 .first)) (known-low q (P .0 .second)) (P .1 .fits) (omega arith)
+  fitting (free p q s) P = fit-set 9 p q s (omega arith) (known-low p (P .0 .first)) (known-low q (P .0 .second)) (P .1 .fits)
   fitting (within p q lo hi) P = let h = P .1 .ascend in fit 10 p q lo hi (omega arith) (known-low p (P .0 .first)) (known-low q (P .0 .second)) (omega (arith, P .1 .fits)) (P .1 .fits)
   fitting (outside p q lo hi) P = let h = P .1 .ascend in fit 11 p q lo hi (omega arith) (known-low p (P .0 .first)) (known-low q (P .0 .second)) (omega (arith, P .1 .fits)) (P .1 .fits)
-  fitting (event p s) P = fit 12 p 0 s 0 (omega arith) (ordinary-low p (P .0)) (omega arith) (P .1) (omega arith)
+  fitting (event p s) P = fit-set 12 p 0 s (omega arith) (ordinary-low p (P .0)) (omega arith) (P .1)
 
   -- The points of the section, with the one that the row introduces, are in order
   pub still-counted : (r : Row) → Permitted front i r → Counted (10 * i) (points (rowsOf i front) ++ introduced r)

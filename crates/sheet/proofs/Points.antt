@@ -9,9 +9,10 @@ use lib.ListN.{length}
 use lib.Dec.{eqb, leb, ltb}
 use borrow.Author.Tests.{eqb-true, leb-true, ltb-true}
 use Rattle.columns.specs.Number.{largest}
-use Rattle.scenario.specs.Rows.{Row, introduced, needs}
-use Rattle.scenario.specs.Fields.{five, fields, decode}
-use Rattle.scenario.specs.Reading.{All, Ordinary, IsEvents, Seen, first, final, antecedent as seen-antecedent, own as seen-own, RowRead}
+use Rattle.scenario.specs.Rows.{Row, set-of, lower-half, upper-half, introduced, needs}
+use Rattle.scenario.specs.Fields.{five, fields, decode, rowOf}
+use Rattle.scenario.specs.Reading.{All, Ordinary, Seen, first, final, antecedent as seen-antecedent, own as seen-own, RowRead}
+use Rattle.scenario.proofs.Halves.{lower-half-of, upper-half-of, set-of-events}
 use Rattle.scenario.proofs.Numbers.{any-kind}
 use Rattle.sheet.specs.declared.Stand.{Stand}
 use Rattle.sheet.specs.Row.{advance, ordinary, known, isDue, knownBut, ordinaryBut, bothOrdinary, kindFits, pFits, originFits, qFits, setOnly, bothZero, restFits}
@@ -72,16 +73,16 @@ unfolding isDue
 due-is f m n p e = let b = both-true (ltb n m) (eqb p (f + n + 1)) e in (eqb-true p (f + n + 1) (b .1), ltb-true n m (b .0))
 
 -- A row of a consequent s, where c of its points and a of the antecedent's are introduced
-module _ (s a c : ℕ) (s1 : 1 ≤ s) (s6 : s ≤ 6) (a4 : a ≤ 4) (c8 : c ≤ 8) (p q x b : ℕ) (fits : x ≤ largest) where
+module _ (s a c : ℕ) (s1 : 1 ≤ s) (s6 : s ≤ 6) (a4 : a ≤ 4) (c8 : c ≤ 8) (p q x b : ℕ) (fits : x ≤ largest) (fits-b : b ≤ largest) where
   abbrev ConsRow : ℕ → Type 0
   ConsRow k =
-      kindFits s k ≡ true → pFits k s a c p ≡ true → qFits k s a c p q x ≡ true → RowRead a s c (decode k p q x b)
+      kindFits s k ≡ true → pFits k s a c p ≡ true → qFits k s a c p q x ≡ true → RowRead a s c (rowOf k p q x b)
 
   plain : (m : ℕ) → ordinary s a c m ≡ true → Ordinary m
   plain m e = ordinary-plain s a c m s6 a4 c8 e
 
   pub cons-row : (k : ℕ) → ConsRow k
-  unfolding kindFits pFits qFits originFits decode IsEvents
+  unfolding kindFits pFits qFits originFits decode
   cons-row =
       any-kind ConsRow
       (λ e f g. absurd (never e))
@@ -96,15 +97,15 @@ module _ (s a c : ℕ) (s1 : 1 ≤ s) (s6 : s ≤ 6) (a4 : a ≤ 4) (c8 : c ≤ 
       (λ e f g. record { valid = tt; due = tt; known = (known-seen s a c p f, (known-but s a c q p g, tt)) })
       (λ e f g. record { valid = tt; due = tt; known = (known-seen s a c p f, (known-but s a c q p g, tt)) })
       (λ e f g. record { valid = tt; due = tt; known = (known-seen s a c p f, (known-but s a c q p g, tt)) })
-      (λ e f g. record { valid = (plain p f, fits); due = tt; known = (ordinary-seen s a c p f, tt) })
+      (λ e f g. record { valid = (plain p f, set-of-events x b fits fits-b); due = tt; known = (ordinary-seen s a c p f, tt) })
       (λ k e f g. absurd (let h = kind-high (suc (suc (suc (suc (suc (suc (suc (suc (suc (suc (suc (suc (suc k))))))))))))) s e in omega arith))
     where
-      introduced : isDue (10 * s) 8 c p ≡ true → bothOrdinary s a c q x ≡ true → RowRead a s c (decode 4 p q x b)
+      introduced : isDue (10 * s) 8 c p ≡ true → bothOrdinary s a c q x ≡ true → RowRead a s c (rowOf 4 p q x b)
       introduced f g =
           let o = both-ordinary s a c q x g in
           record { valid = (plain q (o .0), plain x (o .1)); due = (due-is (10 * s) 8 c p f, tt); known = (ordinary-seen s a c q (o .0), (ordinary-seen s a c x (o .1), tt)) }
 
-      introduced' : isDue (10 * s) 8 c p ≡ true → bothOrdinary s a c q x ≡ true → RowRead a s c (decode 5 p q x b)
+      introduced' : isDue (10 * s) 8 c p ≡ true → bothOrdinary s a c q x ≡ true → RowRead a s c (rowOf 5 p q x b)
       introduced' f g =
           let o = both-ordinary s a c q x g in
           record { valid = (plain q (o .0), plain x (o .1)); due = (due-is (10 * s) 8 c p f, tt); known = (ordinary-seen s a c q (o .0), (ordinary-seen s a c x (o .1), tt)) }
@@ -116,7 +117,7 @@ pub record AnteRow (a : ℕ) (k : Row) : Type 0 where
 
 module _ (a p q x b : ℕ) where
   abbrev Ante : ℕ → Type 0
-  Ante k = kindFits 0 k ≡ true → pFits k 0 a 0 p ≡ true → qFits k 0 a 0 p q x ≡ true → AnteRow a (decode k p q x b)
+  Ante k = kindFits 0 k ≡ true → pFits k 0 a 0 p ≡ true → qFits k 0 a 0 p q x ≡ true → AnteRow a (rowOf k p q x b)
 
   pub ante-row : (k : ℕ) → Ante k
   unfolding kindFits pFits qFits originFits decode
@@ -144,11 +145,11 @@ module _ (a p q x b : ℕ) where
 module _ (at : Stand) (p q x b : ℕ) where
   abbrev ConsNext : ℕ → Type 0
   ConsNext k =
-      (advance at k .antecedent ≡ at .antecedent) × (advance at k .own ≡ length (introduced (decode k p q x b)) + at .own)
+      (advance at k .antecedent ≡ at .antecedent) × (advance at k .own ≡ length (introduced (rowOf k p q x b)) + at .own)
 
   abbrev AnteNext : ℕ → Type 0
   AnteNext k =
-      (advance at k .antecedent ≡ length (introduced (decode k p q x b)) + at .antecedent) × (advance at k .own ≡ at .own)
+      (advance at k .antecedent ≡ length (introduced (rowOf k p q x b)) + at .antecedent) × (advance at k .own ≡ at .own)
 
   module _ (s : ℕ) (s1 : 1 ≤ s) where
     pub cons-next : (k : ℕ) → kindFits s k ≡ true → ConsNext k
@@ -189,43 +190,40 @@ module _ (at : Stand) (p q x b : ℕ) where
       (λ e. (omega arith, refl))
       (λ k e. absurd (let h = kind-high (suc (suc (suc (suc (suc (suc (suc (suc (suc (suc (suc (suc (suc k))))))))))))) 0 e in omega arith))
 
--- The fields that the kind does not mention are 0: the row's numbers are the line's
-module _ (p q x b : ℕ) where
+-- The fields that the kind does not mention are 0, and a set's halves are a and b: the row's numbers are the line's
+module _ (p q x b : ℕ) (fits : x ≤ largest) where
   abbrev Back : ℕ → Type 0
-  Back k = 1 ≤ k → k ≤ 12 → restFits k q x b ≡ true → fields (decode k p q x b) ≡ five k p q x b
+  Back k = 1 ≤ k → k ≤ 12 → restFits k q x b ≡ true → fields (rowOf k p q x b) ≡ five k p q x b
 
-  zero-b : eqb b 0 ≡ true → 0 ≡ b
-  zero-b e = sym (eqb-true b 0 e)
+  zero : (y : ℕ) → eqb y 0 ≡ true → 0 ≡ y
+  zero y e = sym (eqb-true y 0 e)
 
-  set-only-is : setOnly 0 x b ≡ true → 0 ≡ b
-  unfolding setOnly
-  set-only-is e = zero-b (both-true (not (eqb x 0)) (eqb b 0) e .1)
-
-  zeros : (y : ℕ) → bothZero y b ≡ true → (0 ≡ y) × (0 ≡ b)
+  zeros : bothZero x b ≡ true → (0 ≡ x) × (0 ≡ b)
   unfolding bothZero
-  zeros y e = let z = both-true (eqb y 0) (eqb b 0) e in (sym (eqb-true y 0 (z .0)), zero-b (z .1))
+  zeros e = let z = both-true (eqb x 0) (eqb b 0) e in (zero x (z .0), zero b (z .1))
 
-  point-only : setOnly q x b ≡ true → (0 ≡ q) × (0 ≡ b)
+  no-q : setOnly q x b ≡ true → 0 ≡ q
   unfolding setOnly
-  point-only e =
-      let z = both-true (eqb q 0) (not (eqb x 0) && eqb b 0) e in
-      (sym (eqb-true q 0 (z .0)), zero-b (both-true (not (eqb x 0)) (eqb b 0) (z .1) .1))
+  no-q e = zero q (both-true (eqb q 0) (not (bothZero x b)) e .0)
+
+  halves : (k y : ℕ) → five k p y (lower-half (set-of x b)) (upper-half (set-of x b)) ≡ five k p y x b
+  halves k y = rw (lower-half-of x b fits, upper-half-of x b fits)
 
   pub fields-back : (k : ℕ) → Back k
   unfolding restFits decode fields
   fields-back =
       any-kind Back
       (λ h g e. absurd (omega arith))
-      (λ h g e. ap (λ (y : ℕ). five 1 p y x 0) (point-only e .0) ∙ ap (λ (y : ℕ). five 1 p q x y) (point-only e .1))
-      (λ h g e. ap (λ (y : ℕ). five 2 p q x y) (set-only-is e))
-      (λ h g e. ap (λ (y : ℕ). five 3 p q x y) (set-only-is e))
-      (λ h g e. ap (λ (y : ℕ). five 4 p q x y) (zero-b e))
-      (λ h g e. ap (λ (y : ℕ). five 5 p q x y) (zero-b e))
-      (λ h g e. ap (λ (y : ℕ). five 6 p q y 0) (zeros x e .0) ∙ ap (λ (y : ℕ). five 6 p q x y) (zeros x e .1))
-      (λ h g e. ap (λ (y : ℕ). five 7 p q y 0) (zeros x e .0) ∙ ap (λ (y : ℕ). five 7 p q x y) (zeros x e .1))
-      (λ h g e. ap (λ (y : ℕ). five 8 p q y 0) (zeros x e .0) ∙ ap (λ (y : ℕ). five 8 p q x y) (zeros x e .1))
-      (λ h g e. ap (λ (y : ℕ). five 9 p q x y) (set-only-is e))
+      (λ h g e. halves 1 0 ∙ ap (λ (y : ℕ). five 1 p y x b) (no-q e))
+      (λ h g e. halves 2 q)
+      (λ h g e. halves 3 q)
+      (λ h g e. ap (λ (y : ℕ). five 4 p q x y) (zero b e))
+      (λ h g e. ap (λ (y : ℕ). five 5 p q x y) (zero b e))
+      (λ h g e. ap (λ (y : ℕ). five 6 p q y 0) (zeros e .0) ∙ ap (λ (y : ℕ). five 6 p q x y) (zeros e .1))
+      (λ h g e. ap (λ (y : ℕ). five 7 p q y 0) (zeros e .0) ∙ ap (λ (y : ℕ). five 7 p q x y) (zeros e .1))
+      (λ h g e. ap (λ (y : ℕ). five 8 p q y 0) (zeros e .0) ∙ ap (λ (y : ℕ). five 8 p q x y) (zeros e .1))
+      (λ h g e. halves 9 q)
       (λ h g e. refl)
       (λ h g e. refl)
-      (λ h g e. ap (λ (y : ℕ). five 12 p y x 0) (zeros q e .0) ∙ ap (λ (y : ℕ). five 12 p q x y) (zeros q e .1))
+      (λ h g e. halves 12 0 ∙ ap (λ (y : ℕ). five 12 p y x b) (zero q e))
       (λ k h g e. absurd (omega arith))

@@ -57,7 +57,7 @@ module _ (k : ℕ) (s : List ℕ) where
       fine-if k at (eqb (refusal k at l) 0) _ _ (λ e c.
       let F = row-fits (rowBytes s i) l q in
       let r = fine left (suc i) (after at l) c in
-      ((eqb-true (refusal k at l) 0 e, (F .a, r .0)), (F, r .1)))
+      ((eqb-true (refusal k at l) 0 e, (F, r .0)), (F, r .1)))
       (λ e c. absurd (eqb-false (refusal k at l) 0 e c)))
 
 -- The sheet's rows, section by section, are the lines in order.
@@ -103,7 +103,7 @@ module _ (k : ℕ) where
   lines-numbers [] at A = tt
   lines-numbers (l ∷ ls) at A =
       let P = passes k at l (A .0) in (
-        fields-back (l .p) (l .q) (l .a) (l .b) (l .kind) (kind-low (l .kind) (l .section) (P .kind)) (kind-high (l .kind) (l .section) (P .kind)) (P .rest),
+        fields-back (l .p) (l .q) (l .a) (l .b) (A .1 .0 .a) (l .kind) (kind-low (l .kind) (l .section) (P .kind)) (kind-high (l .kind) (l .section) (P .kind)) (P .rest),
         lines-numbers ls (after at l) (A .1 .1),
       )
 

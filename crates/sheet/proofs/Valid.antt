@@ -208,7 +208,7 @@ module _ (k : ℕ) (k6 : k ≤ 6) (front : List Tagged) (at : Stand) (S : Stands
         own = next-own;
         rows = next-rows;
         counted = next-counted;
-        fair = fair-after k k6 at (numbersOf t) P (S .fair) (N .a);
+        fair = fair-after k k6 at (numbersOf t) P (S .fair) N;
       }
 
 -- All rows
@@ -243,7 +243,7 @@ module _ (k : ℕ) (rows : List Tagged) (W : ValidSheet k rows) where
       let P = row-passes k (W .few-consequents) front at S t row room in
       let N = row-fits k (W .few-consequents) front at S t row in
       let rest = accepts ts (front ++ (t ∷ [])) (after at (numbersOf t)) (stands-on k (W .few-consequents) front at S t P N) (e ∙ sym (append-assoc front (t ∷ []) ts)) in
-      ((not-refused k at (numbersOf t) P, (N .a, rest .0)), (N, rest .1))
+      ((not-refused k at (numbersOf t) P, (N, rest .0)), (N, rest .1))
 
 -- rows that are accepted one after another are valid, each by those before it
 abbrev ValidFrom : ℕ → (front rows : List Tagged) → Type 0

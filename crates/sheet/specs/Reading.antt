@@ -10,7 +10,7 @@ use Rattle.columns.specs.Number.{fieldAt}
 use Rattle.columns.specs.declared.Field.{Field}
 use Rattle.columns.specs.declared.Field.the-variants.{Value, Bad}
 use Rattle.scenario.specs.Rows.{Row}
-use Rattle.scenario.specs.Fields.{decode}
+use Rattle.scenario.specs.Fields.{rowOf}
 use Rattle.scenario.specs.Sheet.{Sheet, count}
 use Rattle.sheet.specs.declared.Line.{Line}
 use Rattle.sheet.specs.declared.Stand.{Stand}
@@ -81,7 +81,7 @@ rowsFrom k s i (suc left) at =
 
 -- the row of a line, with the fields that its kind mentions; kinds are known once the row is accepted
 unfoldable pub rowIn : Line → Row
-rowIn l = decode (l .kind) (l .p) (l .q) (l .a) (l .b)
+rowIn l = rowOf (l .kind) (l .p) (l .q) (l .a) (l .b)
 
 -- the rows of section i, in sheet order
 unfoldable pub section : ℕ → List Line → List Row

@@ -114,15 +114,15 @@ qFits kind s antecedent own p q a =
     (cond (leb kind 11) (knownBut s antecedent own q p)
     true)))
 
--- "Sets are non-empty", and q and b are 0
-unfoldable pub setOnly : (q a b : ℕ) → Bool
-setOnly q a b = eqb q 0 && (not (eqb a 0) && eqb b 0)
-
 unfoldable pub bothZero : (a b : ℕ) → Bool
 bothZero a b = eqb a 0 && eqb b 0
 
--- 9 "an unused field not 0, an empty set, or a above b in kinds 10 and 11": 1 and 12 use no q, 1 to 5, 9 and 12 no b, 6 to 8 neither a nor b; sets are those of
--- 1, 2, 3, 9, and of 12, which alone may be empty
+-- "Sets are non-empty", and q is 0. Document 02, A1: the set "is empty when both are 0".
+unfoldable pub setOnly : (q a b : ℕ) → Bool
+setOnly q a b = eqb q 0 && not (bothZero a b)
+
+-- 9 "an unused field not 0, an empty set, or a above b in kinds 10 and 11": 1 and 12 use no q, 4 and 5 no b, 6 to 8 neither a nor b; sets are those of 1, 2, 3, 9,
+-- and of 12, which alone may be empty. A1: "Refusal 9 no longer wants b to be 0 in these kinds."
 unfoldable pub restFits : (kind q a b : ℕ) → Bool
 restFits kind q a b =
     cond (eqb kind 1) (setOnly q a b)
@@ -131,7 +131,7 @@ restFits kind q a b =
     (cond (leb kind 8) (bothZero a b)
     (cond (eqb kind 9) (setOnly 0 a b)
     (cond (leb kind 11) (leb a b)
-    (bothZero q b))))))
+    (eqb q 0))))))
 
 -- 10 "section too long": "Section 0 is the antecedent (at most 32 rows), sections 1 to k the consequents (at most 24 rows each)"; rows stand before this one
 unfoldable pub roomFits : (s rows : ℕ) → Bool

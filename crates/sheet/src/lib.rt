@@ -316,20 +316,7 @@ fn q_fits(kind: u32, s: u32, antecedent: u32, own: u32, p: u32, q: u32, a: u32) 
     }
 }
 
-// A set that is not empty, beside q and b that are not used.
-fn set_only(q: u32, a: u32, b: u32) -> bool
-    ensures { λ r. ⌜ r ≡ setOnly q a b ⌝ }
-{
-    if q != 0 {
-        return false;
-    }
-    if a == 0 {
-        return false;
-    }
-    b == 0
-}
-
-// Two fields that are not used.
+// Two fields that are not used, or the halves of an empty set.
 fn both_zero(a: u32, b: u32) -> bool
     ensures { λ r. ⌜ r ≡ bothZero a b ⌝ }
 {
@@ -337,6 +324,16 @@ fn both_zero(a: u32, b: u32) -> bool
         return false;
     }
     b == 0
+}
+
+// A set that is not empty, its halves in a and b, beside q that is not used.
+fn set_only(q: u32, a: u32, b: u32) -> bool
+    ensures { λ r. ⌜ r ≡ setOnly q a b ⌝ }
+{
+    if q != 0 {
+        return false;
+    }
+    !both_zero(a, b)
 }
 
 // "9 an unused field not 0, an empty set, or a above b in kinds 10 and 11".
@@ -351,7 +348,7 @@ fn rest_fits(kind: u32, q: u32, a: u32, b: u32) -> bool
         6..=8 => both_zero(a, b),
         9 => set_only(0, a, b),
         10 | 11 => a <= b,
-        12 => both_zero(q, b),
+        12 => q == 0,
         _ => false,
     }
 }

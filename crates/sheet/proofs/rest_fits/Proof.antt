@@ -14,7 +14,7 @@ returns-2 : tie.Need-returns-2
 returns-2 c = c .set-only2 .ensures ∙ rest-9 _ _ _ _ (c .before .match .keys2)
 
 returns-3 : tie.Need-returns-3
-returns-3 c = c .both-zero .ensures ∙ rest-12 _ _ _ _ (c .before .match .keys3)
+returns-3 c = rest-12 _ _ _ _ (c .match .keys3)
 
 returns-4 : tie.Need-returns-4
 returns-4 c =
@@ -25,7 +25,7 @@ returns-5 : tie.Need-returns-5
 returns-5 c = rest-4 _ _ _ _ (c .before .if2 .left) (c .if3 .taken)
 
 returns-6 : tie.Need-returns-6
-returns-6 c = c .both-zero2 .ensures ∙ rest-6 _ _ _ _ (c .before .before .if3 .left) (c .before .if4 .taken)
+returns-6 c = c .both-zero .ensures ∙ rest-6 _ _ _ _ (c .before .before .if3 .left) (c .before .if4 .taken)
 
 returns-7 : tie.Need-returns-7
 returns-7 c =
@@ -42,7 +42,6 @@ pub rest-fits-spec : {M : Type 1} → statement M
 rest-fits-spec =
     tie.close
     (tie.spec
-    (λ c κs. search needs)
     (λ c κs. search needs)
     (λ c κs. search needs)
     (λ c κs. search needs)

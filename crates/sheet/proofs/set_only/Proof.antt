@@ -1,6 +1,7 @@
 -- `set_only` meets its contract: the definition's tests one after another.
 -- Assumes nothing.
 use borrow.Author.Tests.{eq-eqb, ne-eqb}
+use borrow.Author.Needs.{needs}
 use Rattle.sheet.specs.Row.{setOnly}
 use Rattle.sheet.proofs.set_only.Statement.{statement}
 use Rattle.sheet.proofs.set_only.Tie as tie
@@ -11,11 +12,7 @@ returns c = simp (ne-eqb _ _ (c .if1 .taken))
 
 returns-2 : tie.Need-returns-2
 unfolding setOnly
-returns-2 c = simp (eq-eqb _ _ (c .before .if1 .left), eq-eqb _ _ (c .if2 .taken))
-
-returns-3 : tie.Need-returns-3
-unfolding setOnly
-returns-3 c = simp (eq-eqb _ _ (c .before .if1 .left), ne-eqb _ _ (c .if2 .left))
+returns-2 c = simp (eq-eqb _ _ (c .before .if1 .left), c .both-zero .ensures)
 
 pub set-only-spec : {M : Type 1} → statement M
-set-only-spec = tie.close (tie.spec returns returns-2 returns-3)
+set-only-spec = tie.close (tie.spec returns (λ c κs. search needs) returns-2)
