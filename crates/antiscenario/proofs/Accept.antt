@@ -6,7 +6,7 @@ use Prim.Native.Nat.{ℕ, zero, suc, _+_, _-_, _≤_, _<_}
 use native.Mathlib.Omega.{arith}
 use lib.ListN.{length}
 use Rattle.scenario.specs.Rows.{Row, point, next, last, earlier, later, before, apart, same, free, within, outside, event, introduced, points}
-use Rattle.scenario.specs.Fields.{Fields, fields, five, decode, Tagged, tagged, written}
+use Rattle.scenario.specs.Fields.{Fields, fields, five, decode, rowOf, Tagged, tagged, written}
 use Rattle.scenario.specs.Sheet.{Sheet}
 use Rattle.scenario.specs.Reading.{All, SheetRead, RowsRead, SectionsRead}
 use Rattle.scenario.proofs.Base.{all-append, all-map, Order, lower, level, upper, order}
@@ -75,7 +75,7 @@ untag (l ∷ ls) A = (A .0, untag ls (A .1))
 
 module _ (p q a b : ℕ) where
   abbrev First : ℕ → Type 0
-  First k = 1 ≤ k → k ≤ 5 → Below (decode k p q a b) → p < 100
+  First k = 1 ≤ k → k ≤ 5 → Below (rowOf k p q a b) → p < 100
 
   first-below : (k : ℕ) → First k
   unfolding decode

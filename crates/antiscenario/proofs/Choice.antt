@@ -11,7 +11,7 @@ use lib.Seq.{getD-set-same, getD-set-other}
 use lib.Dec.{eqb, leb, ltb}
 use borrow.Author.Tests.{le-ltb, eqb-true, eqb-false, ltb-true, ltb-false}
 use Rattle.scenario.specs.Rows.{Row, point, next, last, earlier, later, before, apart, same, free, within, outside, event, introduced, needs, brings, elem, closure, denying-rows, denials, far-end}
-use Rattle.scenario.specs.Fields.{fields, five, decode, Tagged, tagged, written}
+use Rattle.scenario.specs.Fields.{fields, five, decode, rowOf, Tagged, tagged, written}
 use Rattle.scenario.specs.Sheet.{choices, total, choose, chosen}
 use Rattle.sheet.specs.declared.Line.{Line}
 use Rattle.sheet.specs.Row.{six}
@@ -82,7 +82,7 @@ marks-none = record { long = length-replicate {A = ℕ} 100 0; is = λ x h. ap (
 
 module _ (marks ps : List ℕ) (p q a b : ℕ) where
   abbrev Brings : ℕ → Type 0
-  Brings k = 1 ≤ k → k ≤ 12 → (k ≤ 5 → eqb (getD marks p 0) 1 ≡ elem p ps) → (leb 1 k && leb k 5 && eqb (getD marks p 0) 1) ≡ brings (introduced (decode k p q a b)) ps
+  Brings k = 1 ≤ k → k ≤ 12 → (k ≤ 5 → eqb (getD marks p 0) 1 ≡ elem p ps) → (leb 1 k && leb k 5 && eqb (getD marks p 0) 1) ≡ brings (introduced (rowOf k p q a b)) ps
 
   brings-is : (k : ℕ) → Brings k
   unfolding decode brings
@@ -99,7 +99,7 @@ module _ (marks ps : List ℕ) (p q a b : ℕ) where
 
 module _ (s p q a b : ℕ) where
   abbrev Uses : ℕ → Type 0
-  Uses k = 1 ≤ k → k ≤ 12 → uses (six s k p q a b) ≡ needs (decode k p q a b)
+  Uses k = 1 ≤ k → k ≤ 12 → uses (six s k p q a b) ≡ needs (rowOf k p q a b)
 
   uses-kind : (k : ℕ) → Uses k
   unfolding decode uses

@@ -7,7 +7,7 @@ use Prim.Native.Nat.{ℕ}
 use lib.ListN.{length}
 use Rattle.columns.specs.Number.{fieldAt, numeral, scan}
 use Rattle.columns.specs.Spell.{spell, left, leftByte, lastByte}
-use Rattle.scenario.specs.Rows.{complement, meets, clear, below, between, points, denials, denying-rows, denying-free, end, far-end, closure, brings, elem}
+use Rattle.scenario.specs.Rows.{set-of, lower-half, upper-half, complement, meets, clear, below, between, points, denials, denying-rows, denying-free, end, far-end, closure, brings, elem}
 use Rattle.scenario.specs.Fields.{fields, decode, tagged, written}
 use Rattle.scenario.specs.Sheet.{lookup, env, all, flat, is-line, matching, count, total, choices, choose, chosen, antiscenario}
 use Rattle.scenario.specs.Log.{inSet, hasAt, tick, nearAt}
@@ -52,6 +52,12 @@ mixed =
     sheetText 2
     (six 0 1 1 0 8 0 ∷ six 1 2 11 1 4 0 ∷ six 1 3 12 1 2 0 ∷ six 1 5 13 11 12 0 ∷ six 1 12 13 0 4 0 ∷ six 2 9 1 99 2 0 ∷ six 2 12 1 0 8 0 ∷ [])
 
+-- document 02, A1: events 33, 32, 40 and 63 of a newer board, in each kind that has a set; EVENT with all of the lower half, and with none
+abbrev board : List ℕ
+board =
+    sheetText 1
+    (six 0 1 1 0 0 2 ∷ six 1 3 11 1 0 1 ∷ six 1 9 11 1 0 256 ∷ six 1 2 12 1 8 2147483648 ∷ six 1 12 12 0 1 2147483648 ∷ six 1 12 1 0 4294967295 0 ∷ six 1 12 1 0 0 0 ∷ [])
+
 -- Writing
 
 -- a sheet's bytes, a number m, and the bytes that are written
@@ -75,13 +81,20 @@ table =
     -- BEFORE by the reverse, then by SAME
     ∷ case two-before 1 (sheetText 1 (six 0 1 1 0 8 0 ∷ six 0 1 2 0 8 0 ∷ six 1 6 2 1 0 0 ∷ []))
     ∷ case two-before 2 (sheetText 1 (six 0 1 1 0 8 0 ∷ six 0 1 2 0 8 0 ∷ six 1 8 1 2 0 0 ∷ []))
-    ∷ case mixed 2 (sheetText 2 (six 0 1 1 0 8 0 ∷ six 1 9 1 99 4 0 ∷ six 2 12 1 0 4294967287 0 ∷ []))
-    ∷ case mixed 5 (sheetText 2 (six 0 1 1 0 8 0 ∷ six 1 2 11 1 4 0 ∷ six 1 3 12 1 2 0 ∷ six 1 5 13 11 12 0 ∷ six 1 12 13 0 4294967291 0 ∷ six 2 1 29 0 2 0 ∷ six 2 6 1 29 0 0 ∷ []))
-    ∷ case mixed 6 (sheetText 2 (six 0 1 1 0 8 0 ∷ six 1 2 11 1 4 0 ∷ six 1 3 12 1 2 0 ∷ six 1 5 13 11 12 0 ∷ six 1 12 13 0 4294967291 0 ∷ six 2 12 1 0 4294967287 0 ∷ []))
+    ∷ case mixed 2 (sheetText 2 (six 0 1 1 0 8 0 ∷ six 1 9 1 99 4 0 ∷ six 2 12 1 0 4294967287 4294967295 ∷ []))
+    ∷ case mixed 5 (sheetText 2 (six 0 1 1 0 8 0 ∷ six 1 2 11 1 4 0 ∷ six 1 3 12 1 2 0 ∷ six 1 5 13 11 12 0 ∷ six 1 12 13 0 4294967291 4294967295 ∷ six 2 1 29 0 2 0 ∷ six 2 6 1 29 0 0 ∷ []))
+    ∷ case mixed 6 (sheetText 2 (six 0 1 1 0 8 0 ∷ six 1 2 11 1 4 0 ∷ six 1 3 12 1 2 0 ∷ six 1 5 13 11 12 0 ∷ six 1 12 13 0 4294967291 4294967295 ∷ six 2 12 1 0 4294967287 4294967295 ∷ []))
+    -- A1: denials carry both halves, and EVENT is denied by taking both from 4,294,967,295
+    ∷ case board 1 (sheetText 1 (six 0 1 1 0 0 2 ∷ six 1 9 0 1 0 1 ∷ []))
+    ∷ case board 2 (sheetText 1 (six 0 1 1 0 0 2 ∷ six 1 3 11 1 0 1 ∷ six 1 1 19 0 0 256 ∷ six 1 6 11 19 0 0 ∷ six 1 6 19 1 0 0 ∷ []))
+    ∷ case board 4 (sheetText 1 (six 0 1 1 0 0 2 ∷ six 1 9 1 99 8 2147483648 ∷ []))
+    ∷ case board 5 (sheetText 1 (six 0 1 1 0 0 2 ∷ six 1 2 12 1 8 2147483648 ∷ six 1 12 12 0 4294967294 2147483647 ∷ []))
+    ∷ case board 6 (sheetText 1 (six 0 1 1 0 0 2 ∷ six 1 12 1 0 0 4294967295 ∷ []))
+    ∷ case board 7 (sheetText 1 (six 0 1 1 0 0 2 ∷ six 1 12 1 0 4294967295 4294967295 ∷ []))
     ∷ []
 
 pub written-examples : map (λ (c : Case). writtenText (c .sheet) (c .number)) table ≡ map (λ (c : Case). c .text) table
-unfolding complement writtenText writtenLines lineFrom numbersOf written tagged fields chosen choose count total choices denials denying-rows denying-free end far-end closure brings elem decode
+unfolding complement set-of lower-half upper-half writtenText writtenLines lineFrom numbersOf written tagged fields chosen choose count total choices denials denying-rows denying-free end far-end closure brings elem decode
     sheetText headText rowsText rowText spell left leftByte lastByte fieldAt numeral scan
     answer taken closing headOf rowsFrom rowBytes after sheetOf section sections rowIn
     lineOf refusal sectionFits refusalWithin originFits kindFits pFits isDue ordinary known qFits knownBut ordinaryBut bothOrdinary restFits setOnly bothZero roomFits enter advance
@@ -140,6 +153,10 @@ judgings =
     ∷ judging (sheetText 0 (six 0 1 1 0 8 0 ∷ [])) scan-alone 1 (1 ∷ []) 1 0 true
     ∷ judging (sheetText 0 (six 0 1 1 0 8 0 ∷ [])) scan-alone 1 (0 ∷ []) 1 0 false
     ∷ judging (sheetText 0 (six 0 1 1 0 8 0 ∷ [])) scan-alone 1 (2 ∷ []) 1 0 false
+    -- A1: event 33 is not the event 0 that the sheet asks for, and EVENT's denial sees it; NEXT's denial does not see event 3 alone
+    ∷ judging (sheetText 1 (six 0 1 1 0 0 2 ∷ six 1 12 1 0 1 0 ∷ [])) (logText 10 (entry 10 33 ∷ [])) 1 (1 ∷ []) 1 0 true
+    ∷ judging board (logText 10 (entry 10 33 ∷ entry 10 32 ∷ [])) 4 (1 ∷ []) 1 0 true
+    ∷ judging board (logText 10 (entry 10 33 ∷ entry 10 63 ∷ [])) 4 (1 ∷ []) 1 0 false
     -- entries past the number play no part; no points: the rows speak of start and close alone
     ∷ judging S late 2 (3 ∷ 1 ∷ 0 ∷ 77 ∷ []) 2 0 true
     ∷ judging (sheetText 0 []) (logText 0 []) 1 (9 ∷ []) 0 0 true
@@ -149,12 +166,12 @@ judgings =
     ∷ judging S late 2 (3 ∷ 1 ∷ 1 ∷ []) 3 34 false
     ∷ judging S late 0 [] 0 31 false
     ∷ judging S late 5 (3 ∷ []) 1 31 false
-    ∷ judging S (logText 10 (entry 10 32 ∷ [])) 5 [] 0 25 false
-    ∷ judging (sheetText 7 []) (logText 10 (entry 10 32 ∷ [])) 5 [] 0 2 false
+    ∷ judging S (logText 10 (entry 10 64 ∷ [])) 5 [] 0 25 false
+    ∷ judging (sheetText 7 []) (logText 10 (entry 10 64 ∷ [])) 5 [] 0 2 false
     ∷ []
 
 pub judged-examples : map (λ (c : Judging). judgeOf (c .sheet) (c .log) (c .number) (c .positions) (c .filled)) judgings ≡ map (λ (c : Judging). c .judged) judgings
-unfolding judgeOf refusalOf antiscenario flat chosen choose count total choices denials denying-rows denying-free end far-end closure brings elem decode
+unfolding set-of lower-half upper-half complement judgeOf refusalOf antiscenario flat chosen choose count total choices denials denying-rows denying-free end far-end closure brings elem decode
     points matching all is-line meets env lookup clear below between inSet hasAt tick nearAt
     sheetText headText rowsText rowText spell left leftByte lastByte fieldAt numeral scan
     answer taken closing headOf rowsFrom rowBytes after sheetOf section sections rowIn

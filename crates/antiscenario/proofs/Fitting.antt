@@ -10,10 +10,11 @@ use lib.Dec.{eqb, ltb}
 use Rattle.columns.specs.Number.{largest}
 use Rattle.columns.specs.Spell.{fitsIn}
 use Rattle.columns.proofs.Fits.{parts-fit}
-use Rattle.scenario.specs.Rows.{Row, point, next, last, earlier, later, before, apart, same, free, within, outside, event, denying-rows, denying-free, End, start, close, inner, end, far-end, complement}
+use Rattle.scenario.specs.Rows.{Row, point, next, last, earlier, later, before, apart, same, free, within, outside, event, upper-half, denying-rows, denying-free, End, start, close, inner, end, far-end, complement}
 use Rattle.scenario.specs.Fields.{Fields, fields}
-use Rattle.scenario.specs.Reading.{All}
+use Rattle.scenario.specs.Reading.{All, IsEvents}
 use Rattle.scenario.proofs.Base.{all-append}
+use Rattle.scenario.proofs.Halves.{lower-half-fits, upper-half-fits, complement-events}
 use Rattle.sheet.specs.declared.Line.{Line}
 use Rattle.sheet.specs.Row.{refusal}
 use Rattle.sheet.specs.Reading.{rowIn, taken, answer}
@@ -42,15 +43,15 @@ module _ (s z r : ℕ) (hs : s < 1000) (hz : z < 1000) (hr : r < 1000) where
   abbrev Own : List (List Row) → Type 0
   Own = All (All (λ (x : Row). Fits (lineFrom s x)))
 
-  point-fits : (p a : ℕ) → p < 1000 → a ≤ largest → Fits (lineFrom s (point p a))
+  point-fits : (p a : ℕ) → p < 1000 → upper-half a ≤ largest → Fits (lineFrom s (point p a))
   unfolding lineFrom numbersOf fields
-  point-fits p a hp ha = record { section = hs; kind = omega arith; p = hp; q = omega arith; a = ha; b = omega arith }
+  point-fits p a hp ha = record { section = hs; kind = omega arith; p = hp; q = omega arith; a = lower-half-fits a; b = ha }
 
   before-fits : (p q : ℕ) → p < 1000 → q < 1000 → Fits (lineFrom s (before p q))
   unfolding lineFrom numbersOf fields
   before-fits p q hp hq = record { section = hs; kind = omega arith; p = hp; q = hq; a = omega arith; b = omega arith }
 
-  free-fits : (p q a : ℕ) → p < 1000 → q < 1000 → a ≤ largest → (x y : End) → Own (denying-free r p q a x y)
+  free-fits : (p q a : ℕ) → p < 1000 → q < 1000 → upper-half a ≤ largest → (x y : End) → Own (denying-free r p q a x y)
   unfolding denying-free
   free-fits p q a hp hq ha start start = tt
   free-fits p q a hp hq ha start close = ((point-fits r a hr ha, tt), tt)
@@ -63,19 +64,20 @@ module _ (s z r : ℕ) (hs : s < 1000) (hz : z < 1000) (hr : r < 1000) where
   free-fits p q a hp hq ha inner inner = ((point-fits r a hr ha, (before-fits p r hp hr, (before-fits r q hr hq, tt))), ((point-fits r a hr ha, (before-fits q r hq hr, (before-fits r p hr hp, tt))), tt))
 
   deny-fits : (x : Row) → FitsF (fields x) → Own (denying-rows z r x)
-  unfolding denying-rows fields lineFrom numbersOf complement
+  unfolding denying-rows fields lineFrom numbersOf IsEvents
   deny-fits (point p a) F = tt
-  deny-fits (next p q a) F = ((record { section = hs; kind = omega arith; p = F .1; q = hz; a = F .2; b = omega arith }, tt), tt)
-  deny-fits (last p q a) F = ((record { section = hs; kind = omega arith; p = hz; q = F .1; a = F .2; b = omega arith }, tt), tt)
+  deny-fits (next p q a) F = ((record { section = hs; kind = omega arith; p = F .1; q = hz; a = F .2; b = F .3 }, tt), tt)
+  deny-fits (last p q a) F = ((record { section = hs; kind = omega arith; p = hz; q = F .1; a = F .2; b = F .3 }, tt), tt)
   deny-fits (earlier p q a) F = tt
   deny-fits (later p q a) F = tt
   deny-fits (before p q) F = ((before-fits q p (F .1) (F .0), tt), ((record { section = hs; kind = omega arith; p = F .0; q = F .1; a = omega arith; b = omega arith }, tt), tt))
   deny-fits (apart p q) F = ((record { section = hs; kind = omega arith; p = F .0; q = F .1; a = omega arith; b = omega arith }, tt), tt)
   deny-fits (same p q) F = ((record { section = hs; kind = omega arith; p = F .0; q = F .1; a = omega arith; b = omega arith }, tt), tt)
-  deny-fits (free p q a) F = free-fits p q a (F .0) (F .1) (F .2) (end p) (end q)
+  deny-fits (free p q a) F = free-fits p q a (F .0) (F .1) (F .3) (end p) (end q)
   deny-fits (within p q lo hi) F = ((record { section = hs; kind = omega arith; p = F .0; q = F .1; a = F .2; b = F .3 }, tt), tt)
   deny-fits (outside p q lo hi) F = ((record { section = hs; kind = omega arith; p = F .0; q = F .1; a = F .2; b = F .3 }, tt), tt)
-  deny-fits (event p a) F = ((record { section = hs; kind = omega arith; p = F .0; q = omega arith; a = omega arith; b = omega arith }, tt), tt)
+  deny-fits (event p a) F =
+      ((record { section = hs; kind = omega arith; p = F .0; q = omega arith; a = lower-half-fits (complement a); b = upper-half-fits (complement a) (complement-events a) }, tt), tt)
 
 far-small : (r : Row) → far-end [] [] r < 1000
 unfolding far-end

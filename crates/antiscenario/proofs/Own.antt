@@ -8,14 +8,15 @@ use native.Mathlib.Omega.{arith}
 use lib.ListN.{length, getD}
 use lib.Dec.{eqb}
 use borrow.Author.Tests.{eqb-true, eqb-false, eq-eqb, ne-eqb}
-use Rattle.scenario.specs.Rows.{denying-rows, denying-free, end, far-end, complement, full-set}
-use Rattle.scenario.specs.Fields.{fields, decode}
+use Rattle.scenario.specs.Rows.{full-half, set-of, lower-half, upper-half, denying-rows, denying-free, end, far-end, complement}
+use Rattle.scenario.specs.Fields.{fields, decode, rowOf}
 use Rattle.sheet.specs.declared.Line.{Line}
 use Rattle.sheet.specs.Row.{six}
 use Rattle.sheet.specs.Reading.{rowIn}
 use Rattle.sheet.specs.Memory.{put, lay, edge, weight, weightFree}
 use Rattle.sheet.proofs.Count.{weight-6, weight-9, weight-low, weight-high}
 use Rattle.scenario.proofs.Numbers.{any-kind}
+use Rattle.scenario.proofs.Halves.{lower-half-of, upper-half-of}
 use Rattle.sheet.specs.Text.{numbersOf}
 use Rattle.antiscenario.specs.Build.{farOf, own, freeRows, lineFrom, beforeOf, insideOf}
 
@@ -30,13 +31,14 @@ module _ (far : ℕ) (l : Line) (v : ℕ) (h : v < weight (l .kind) (l .p) (l .q
   high : 6 ≤ l .kind → (l .kind ≡ 6 → ⊥) → (l .kind ≡ 9 → ⊥) → v ≡ 0
   high k n m = only v (l .kind) (l .p) (l .q) h (weight-high (l .kind) (l .p) (l .q) k n m)
 
-  pub own-2 : l .kind ≡ 2 → own far l v ≡ six (l .section) 9 (l .q) far (l .a) 0 ∷ []
+  -- both halves of the set are carried
+  pub own-2 : l .a ≤ full-half → l .kind ≡ 2 → own far l v ≡ six (l .section) 9 (l .q) far (l .a) (l .b) ∷ []
   unfolding own rowIn decode denying-rows fields lineFrom numbersOf
-  own-2 e = let z = low (λ x. omega arith) (omega arith) in rw (e, z)
+  own-2 f e = let z = low (λ x. omega arith) (omega arith) in rw (e, z, lower-half-of (l .a) (l .b) f, upper-half-of (l .a) (l .b) f)
 
-  pub own-3 : l .kind ≡ 3 → own far l v ≡ six (l .section) 9 far (l .q) (l .a) 0 ∷ []
+  pub own-3 : l .a ≤ full-half → l .kind ≡ 3 → own far l v ≡ six (l .section) 9 far (l .q) (l .a) (l .b) ∷ []
   unfolding own rowIn decode denying-rows fields lineFrom numbersOf
-  own-3 e = let z = low (λ x. omega arith) (omega arith) in rw (e, z)
+  own-3 f e = let z = low (λ x. omega arith) (omega arith) in rw (e, z, lower-half-of (l .a) (l .b) f, upper-half-of (l .a) (l .b) f)
 
   pub own-6 : l .kind ≡ 6 → own far l v ≡ beforeOf (l .section) (l .p) (l .q) v ∷ []
   unfolding own rowIn decode denying-rows fields lineFrom numbersOf
@@ -63,9 +65,12 @@ module _ (far : ℕ) (l : Line) (v : ℕ) (h : v < weight (l .kind) (l .p) (l .q
   unfolding own rowIn decode denying-rows fields lineFrom numbersOf
   own-11 e = let z = high (omega arith) (λ x. omega arith) (λ x. omega arith) in rw (e, z)
 
-  pub own-12 : l .kind ≡ 12 → own far l v ≡ six (l .section) 12 (l .p) 0 (full-set - l .a) 0 ∷ []
+  pub own-12 : l .a ≤ full-half → l .kind ≡ 12 → own far l v ≡ six (l .section) 12 (l .p) 0 (full-half - l .a) (full-half - l .b) ∷ []
   unfolding own rowIn decode denying-rows fields lineFrom numbersOf complement
-  own-12 e = let z = high (omega arith) (λ x. omega arith) (λ x. omega arith) in rw (e, z)
+  own-12 f e =
+      let z = high (omega arith) (λ x. omega arith) (λ x. omega arith) in
+      let c : full-half - l .a ≤ full-half = omega arith in
+      rw (e, z, lower-half-of (l .a) (l .b) f, upper-half-of (l .a) (l .b) f, lower-half-of (full-half - l .a) (full-half - l .b) c, upper-half-of (full-half - l .a) (full-half - l .b) c)
 
 -- kinds that no accepted row has, and those without denials
 module _ (far s p q a b v : ℕ) where
@@ -98,9 +103,9 @@ pub own-other : (far : ℕ) (l : Line) (v : ℕ) → (l .kind ≡ 2 → ⊥) →
 own-other far l v = other far (l .section) (l .p) (l .q) (l .a) (l .b) v (l .kind)
 
 -- FREE
-module _ (s r p q a : ℕ) where
+module _ (s r p q t : ℕ) where
   free-go : (x y z w : Bool) → eqb p 0 ≡ x → eqb p 99 ≡ y → eqb q 0 ≡ z → eqb q 99 ≡ w → (v : ℕ) → v < weightFree p q
-      → map (lineFrom s) (getD (denying-free r p q a (end p) (end q)) v []) ≡ freeRows s r p q a v
+      → map (lineFrom s) (getD (denying-free r p q t (end p) (end q)) v []) ≡ freeRows s r p q (lower-half t) (upper-half t) v
   unfolding denying-free end weightFree edge lineFrom numbersOf fields
   free-go true y true w ep fp eq fq v h = let e : weightFree p q ≡ 0 = rw (eqb-true p 0 ep, eqb-true q 0 eq) in absurd (omega arith)
   free-go true y false true ep fp eq fq zero h = rw (eqb-true p 0 ep, eqb-true q 99 fq)
@@ -120,16 +125,19 @@ module _ (s r p q a : ℕ) where
   free-go false false false false ep fp eq fq (suc zero) h = simp (ep, fp, eq, fq)
   free-go false false false false ep fp eq fq (suc (suc v)) h = let e : weightFree p q ≡ 2 = simp (ep, fp, eq, fq) in absurd (omega arith)
 
-pub own-9 : (far : ℕ) (l : Line) (v : ℕ) → l .kind ≡ 9 → v < weightFree (l .p) (l .q) → own far l v ≡ freeRows (l .section) (10 * l .section + 9) (l .p) (l .q) (l .a) v
+pub own-9 : (far : ℕ) (l : Line) (v : ℕ) → l .a ≤ full-half → l .kind ≡ 9 → v < weightFree (l .p) (l .q)
+    → own far l v ≡ freeRows (l .section) (10 * l .section + 9) (l .p) (l .q) (l .a) (l .b) v
 unfolding own rowIn decode denying-rows
-own-9 far l v e h =
-    rw e (free-go (l .section) (10 * l .section + 9) (l .p) (l .q) (l .a) (eqb (l .p) 0) (eqb (l .p) 99) (eqb (l .q) 0) (eqb (l .q) 99) refl refl refl refl v h)
+own-9 far l v f e h =
+    rw e
+    (free-go (l .section) (10 * l .section + 9) (l .p) (l .q) (set-of (l .a) (l .b)) (eqb (l .p) 0) (eqb (l .p) 99) (eqb (l .q) 0) (eqb (l .q) 99) refl refl refl refl v h
+    ∙ rw (lower-half-of (l .a) (l .b) f, upper-half-of (l .a) (l .b) f))
 
 -- at most three rows
-pub free-short : (s r p q a v : ℕ) → length (freeRows s r p q a v) ≤ 3
-free-short s r p q a v = go (edge p) (edge q) (eqb v 0)
+pub free-short : (s r p q a b v : ℕ) → length (freeRows s r p q a b v) ≤ 3
+free-short s r p q a b v = go (edge p) (edge q) (eqb v 0)
   where
-    go : (x y z : Bool) → length (six s 1 r 0 a 0 ∷ cond x (cond y [] (insideOf s r p q ∷ [])) (cond y (insideOf s r q p ∷ [])
+    go : (x y z : Bool) → length (six s 1 r 0 a b ∷ cond x (cond y [] (insideOf s r p q ∷ [])) (cond y (insideOf s r q p ∷ [])
         (cond z (six s 6 p r 0 0 ∷ six s 6 r q 0 0 ∷ []) (six s 6 q r 0 0 ∷ six s 6 r p 0 0 ∷ [])))) ≤ 3
     go true true z = omega arith
     go true false z = omega arith
@@ -160,35 +168,35 @@ module _ (l : Line) (v : ℕ) where
   spare = 10 * l .section + 9
 
   abbrev first : Line
-  first = six (l .section) 1 spare 0 (l .a) 0
+  first = six (l .section) 1 spare 0 (l .a) (l .b)
 
-  pub free-1 : edge (l .p) ≡ true → edge (l .q) ≡ true → freeRows (l .section) spare (l .p) (l .q) (l .a) v ≡ first ∷ []
+  pub free-1 : edge (l .p) ≡ true → edge (l .q) ≡ true → freeRows (l .section) spare (l .p) (l .q) (l .a) (l .b) v ≡ first ∷ []
   free-1 e f = simp (e, f)
 
-  pub free-2 : edge (l .p) ≡ true → edge (l .q) ≡ false → freeRows (l .section) spare (l .p) (l .q) (l .a) v ≡ first ∷ insideOf (l .section) spare (l .p) (l .q) ∷ []
+  pub free-2 : edge (l .p) ≡ true → edge (l .q) ≡ false → freeRows (l .section) spare (l .p) (l .q) (l .a) (l .b) v ≡ first ∷ insideOf (l .section) spare (l .p) (l .q) ∷ []
   free-2 e f = simp (e, f)
 
-  pub free-3 : edge (l .p) ≡ false → edge (l .q) ≡ true → freeRows (l .section) spare (l .p) (l .q) (l .a) v ≡ first ∷ insideOf (l .section) spare (l .q) (l .p) ∷ []
+  pub free-3 : edge (l .p) ≡ false → edge (l .q) ≡ true → freeRows (l .section) spare (l .p) (l .q) (l .a) (l .b) v ≡ first ∷ insideOf (l .section) spare (l .q) (l .p) ∷ []
   free-3 e f = simp (e, f)
 
-  pub free-4 : edge (l .p) ≡ false → edge (l .q) ≡ false → v ≡ 0 → freeRows (l .section) spare (l .p) (l .q) (l .a) v ≡ first ∷ six (l .section) 6 (l .p) spare 0 0 ∷ six (l .section) 6 spare (l .q) 0 0 ∷ []
+  pub free-4 : edge (l .p) ≡ false → edge (l .q) ≡ false → v ≡ 0 → freeRows (l .section) spare (l .p) (l .q) (l .a) (l .b) v ≡ first ∷ six (l .section) 6 (l .p) spare 0 0 ∷ six (l .section) 6 spare (l .q) 0 0 ∷ []
   free-4 e f z = simp (e, f, eq-eqb v 0 z)
 
-  pub free-5 : edge (l .p) ≡ false → edge (l .q) ≡ false → (v ≡ 0 → ⊥) → freeRows (l .section) spare (l .p) (l .q) (l .a) v ≡ first ∷ six (l .section) 6 (l .q) spare 0 0 ∷ six (l .section) 6 spare (l .p) 0 0 ∷ []
+  pub free-5 : edge (l .p) ≡ false → edge (l .q) ≡ false → (v ≡ 0 → ⊥) → freeRows (l .section) spare (l .p) (l .q) (l .a) (l .b) v ≡ first ∷ six (l .section) 6 (l .q) spare 0 0 ∷ six (l .section) 6 spare (l .p) 0 0 ∷ []
   free-5 e f z = simp (e, f, ne-eqb v 0 z)
 
 -- stored, they are the own rows of a row of kind 9
-pub free-own : (far : ℕ) (l : Line) (v at r : ℕ) (out o : List ℕ) → l .kind ≡ 9 → v < weight (l .kind) (l .p) (l .q)
-    → r ≡ at + length (freeRows (l .section) (10 * l .section + 9) (l .p) (l .q) (l .a) v) → o ≡ lay at (freeRows (l .section) (10 * l .section + 9) (l .p) (l .q) (l .a) v) out
+pub free-own : (far : ℕ) (l : Line) (v at r : ℕ) (out o : List ℕ) → l .a ≤ full-half → l .kind ≡ 9 → v < weight (l .kind) (l .p) (l .q)
+    → r ≡ at + length (freeRows (l .section) (10 * l .section + 9) (l .p) (l .q) (l .a) (l .b) v) → o ≡ lay at (freeRows (l .section) (10 * l .section + 9) (l .p) (l .q) (l .a) (l .b) v) out
     → (r ≡ at + length (own far l v)) × (o ≡ lay at (own far l v) out)
-free-own far l v at r out o k h e f =
-    let q = own-9 far l v k (subst (λ (w : ℕ). v < w) (sym (weight-9 (l .kind) (l .p) (l .q) k)) h) in
+free-own far l v at r out o a k h e f =
+    let q = own-9 far l v a k (subst (λ (w : ℕ). v < w) (sym (weight-9 (l .kind) (l .p) (l .q) k)) h) in
     (e ∙ ap (λ (ls : List Line). at + length ls) (sym q), f ∙ ap (λ (ls : List Line). lay at ls out) (sym q))
 
 -- The far end
 module _ (p q a b : ℕ) where
   abbrev Near : ℕ → Type 0
-  Near k = (k ≡ 2 → ⊥) → 0 ≡ far-end [] [] (decode k p q a b)
+  Near k = (k ≡ 2 → ⊥) → 0 ≡ far-end [] [] (rowOf k p q a b)
 
   near : (k : ℕ) → Near k
   unfolding decode far-end

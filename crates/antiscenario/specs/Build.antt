@@ -60,9 +60,9 @@ abbrev pub insideOf : (s r e p : ℕ) → Line
 insideOf s r e p = cond (eqb e 0) (six s 6 r p 0 0) (six s 6 p r 0 0)
 
 -- FREE's own rows, r being the spare point
-abbrev pub freeRows : (s r p q a v : ℕ) → List Line
-freeRows s r p q a v =
-    six s 1 r 0 a 0
+abbrev pub freeRows : (s r p q a b v : ℕ) → List Line
+freeRows s r p q a b v =
+    six s 1 r 0 a b
     ∷ cond (edge p) (cond (edge q) [] (insideOf s r p q ∷ []))
     (cond (edge q) (insideOf s r q p ∷ [])
     (cond (eqb v 0) (six s 6 p r 0 0 ∷ six s 6 r q 0 0 ∷ []) (six s 6 q r 0 0 ∷ six s 6 r p 0 0 ∷ [])))

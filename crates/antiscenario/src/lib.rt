@@ -23,6 +23,9 @@ const BUFFER_TOO_SHORT: u32 = 32;
 
 const WRONG_NUMBER_OF_POSITIONS: u32 = 34;
 
+// Half of a set, with all its events: both halves are taken from it where EVENT is denied.
+const FULL_HALF: u32 = 4294967295;
+
 // What writing gives: the refusal, or 0 and the text's length.
 pub struct Written {
     pub refusal: u32,
@@ -186,14 +189,14 @@ fn deny_line(line: sheet::Line, v: u64, far: u32) -> sheet::Line
     let q = line.q;
     let kind = line.kind;
     match kind {
-        2 => row(s, 9, q, far, line.a, 0),
-        3 => row(s, 9, far, q, line.a, 0),
+        2 => row(s, 9, q, far, line.a, line.b),
+        3 => row(s, 9, far, q, line.a, line.b),
         6 => deny_before(s, p, q, v),
         7 => row(s, 8, p, q, 0, 0),
         8 => row(s, 7, p, q, 0, 0),
         10 => row(s, 11, p, q, line.a, line.b),
         11 => row(s, 10, p, q, line.a, line.b),
-        12 => row(s, 12, p, 0, runlog::FULL_SET - line.a, 0),
+        12 => row(s, 12, p, 0, FULL_HALF - line.a, FULL_HALF - line.b),
         _ => row(s, 8, 0, 0, 0, 0),
     }
 }
@@ -211,14 +214,14 @@ fn deny_before(s: u32, p: u32, q: u32, v: u64) -> sheet::Line
 // Stores the own rows of denial v of FREE; gives where they end.
 fn deny_free(line: sheet::Line, v: u64, out: &mut [u32], at: usize) -> usize
     requires { ⌜ (line .section ≤ 100) × (at ≤ 1900) ⌝ }
-    ensures ends { λ r. ⌜ r ≡ at + length (freeRows (line .section) (10 * line .section + 9) (line .p) (line .q) (line .a) v) ⌝ }
-    ensures memory { λ r. ⌜ now (out .exit) ≡ lay at (freeRows (line .section) (10 * line .section + 9) (line .p) (line .q) (line .a) v) (now (out .entry)) ⌝ }
+    ensures ends { λ r. ⌜ r ≡ at + length (freeRows (line .section) (10 * line .section + 9) (line .p) (line .q) (line .a) (line .b) v) ⌝ }
+    ensures memory { λ r. ⌜ now (out .exit) ≡ lay at (freeRows (line .section) (10 * line .section + 9) (line .p) (line .q) (line .a) (line .b) v) (now (out .entry)) ⌝ }
 {
     let s = line.section;
     let p = line.p;
     let q = line.q;
     let r = 10 * s + 9;
-    sheet::put_line(out, at, row(s, 1, r, 0, line.a, 0));
+    sheet::put_line(out, at, row(s, 1, r, 0, line.a, line.b));
     if sheet::is_edge(p) {
         if sheet::is_edge(q) {
             return at + 1;

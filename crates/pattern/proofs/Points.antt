@@ -9,7 +9,7 @@ use native.Mathlib.Omega.{arith}
 use lib.ListN.{length, set, take, length-append}
 use lib.Seq.{length-take-le, take-suc-set, append-snoc}
 use lib.Dec.{leb}
-use Rattle.scenario.specs.Rows.{introduced, points}
+use Rattle.scenario.specs.Rows.{set-of, introduced, points}
 use Rattle.scenario.proofs.Numbers.{introduced-is}
 use Rattle.sheet.specs.Reading.{rowIn}
 use Rattle.sheet.specs.Memory.{kindAt, pAt, qAt, aAt, bAt, lineIn, rowAt, listed}
@@ -29,14 +29,14 @@ module _ (rows : List ℕ) (count j : ℕ) where
   more-none h e = more h ∙ ap (λ (l : List ℕ). l ++ rest (j + 1)) none
     where
       none : introduced (rowAt rows j) ≡ []
-      none = introduced-is (pAt rows j) (qAt rows j) (aAt rows j) (bAt rows j) (kindAt rows j) ∙ rw e
+      none = introduced-is (pAt rows j) (qAt rows j) (aAt rows j) (bAt rows j) (set-of (aAt rows j) (bAt rows j)) (kindAt rows j) ∙ rw e
 
   pub more-one : j < count → (leb 1 (kindAt rows j) && leb (kindAt rows j) 5) ≡ true → rest j ≡ pAt rows j ∷ rest (j + 1)
   unfolding rowAt rowIn lineIn
   more-one h e = more h ∙ ap (λ (l : List ℕ). l ++ rest (j + 1)) one
     where
       one : introduced (rowAt rows j) ≡ pAt rows j ∷ []
-      one = introduced-is (pAt rows j) (qAt rows j) (aAt rows j) (bAt rows j) (kindAt rows j) ∙ rw e
+      one = introduced-is (pAt rows j) (qAt rows j) (aAt rows j) (bAt rows j) (set-of (aAt rows j) (bAt rows j)) (kindAt rows j) ∙ rw e
 
   pub no-more : count ≤ j → rest j ≡ []
   unfolding listed points

@@ -4,7 +4,7 @@ ghost use mathlib.Core.Bool.{_&&_};
 ghost use Prim.Native.Nat.{_+_, _-_, _≤_, _<_};
 ghost use lib.ListN.{length, getD, take};
 ghost use lib.Dec.{ltb, leb};
-ghost use Rattle.scenario.specs.Rows.{clear as clearOf, meets as meetsOf, points};
+ghost use Rattle.scenario.specs.Rows.{set-of as setOf, clear as clearOf, meets as meetsOf, points};
 ghost use Rattle.scenario.specs.Log.{hasAt};
 ghost use Rattle.scenario.specs.Sheet.{all, matching};
 ghost use Rattle.scenario.specs.Reading.{Pattern, most-points};
@@ -25,13 +25,14 @@ pub const MOST_POINTS: usize = 58;
 // Room for 200 rows, more than an antiscenario has, six numbers to a row.
 pub const ROWS_ROOM: usize = 1200;
 
-// A row's five numbers.
+// A row's five numbers, and the set whose halves a and b are where the kind has one.
 pub struct Row {
     pub kind: u32,
     pub p: u32,
     pub q: u32,
-    pub a: u64,
-    pub b: u64,
+    pub a: u32,
+    pub b: u32,
+    pub set: u64,
 }
 
 // The position of a point; 0 for a number that the array does not have.
@@ -45,37 +46,28 @@ pub fn at(env: &[u32], m: u32) -> u32
     0
 }
 
-// The position of a point whose number stands in the field a.
-pub fn point_at(env: &[u32], m: u64) -> u32
-    ensures { λ r. ⌜ r ≡ getD (now (env .entry)) m 0 ⌝ }
+// "The set is a + 2^32 × b."
+fn set_of(a: u32, b: u32) -> u64
+    ensures { λ r. ⌜ r ≡ setOf a b ⌝ }
 {
-    let i = m as usize;
-    if i < env.len() {
-        return env[i];
-    }
-    0
-}
-
-pub fn wide(x: u32) -> u64
-    ensures { λ r. ⌜ r ≡ x ⌝ }
-{
-    x as u64
+    a as u64 + 4294967296 * b as u64
 }
 
 // Row j of rows in memory, six numbers to a row.
 pub fn row_at(rows: &[u32; ROWS_ROOM], j: u32) -> Row
     requires { ⌜ j < 200 ⌝ }
-    ensures { λ r. ⌜ decode (r .kind) (r .p) (r .q) (r .a) (r .b) ≡ rowAt (now (rows .entry)) j ⌝ }
+    ensures { λ r. ⌜ decode (r .kind) (r .p) (r .q) (r .a) (r .b) (r .set) ≡ rowAt (now (rows .entry)) j ⌝ }
 {
     let i = j as usize;
-    let a = wide(sheet::a_of(rows, i));
-    let b = wide(sheet::b_of(rows, i));
+    let a = sheet::a_of(rows, i);
+    let b = sheet::b_of(rows, i);
     Row {
         kind: sheet::kind_of(rows, i),
         p: sheet::p_of(rows, i),
         q: sheet::q_of(rows, i),
         a,
         b,
+        set: set_of(a, b),
     }
 }
 
@@ -140,20 +132,20 @@ fn ordered(kind: u32, x: u32, y: u32) -> bool
 // "Kinds of row and when a placement meets them": whether the row is met where its points have the positions that env gives, by point number.
 pub fn meets(ticks: &[u32], events: &[u32], n: u32, env: &[u32], row: Row) -> bool
     requires { ⌜ Held (now ticks) (now events) n ⌝ }
-    ensures { λ r. ⌜ r ≡ meetsOf (runAt (now (ticks .entry)) (now (events .entry)) n) (by (now (env .entry))) (decode (row .kind) (row .p) (row .q) (row .a) (row .b)) ⌝ }
+    ensures { λ r. ⌜ r ≡ meetsOf (runAt (now (ticks .entry)) (now (events .entry)) n) (by (now (env .entry))) (decode (row .kind) (row .p) (row .q) (row .a) (row .b) (row .set)) ⌝ }
 {
     let kind = row.kind;
-    let a = row.a;
+    let set = row.set;
     let x = at(env, row.p);
     let y = at(env, row.q);
     match kind {
-        1 => runlog::has(events, n, a, x),
-        2..=5 => placed(events, n, kind, a, x, y, point_at(env, a)),
+        1 => runlog::has(events, n, set, x),
+        2..=5 => placed(events, n, kind, set, x, y, at(env, row.a)),
         6..=8 => ordered(kind, x, y),
-        9 => runlog::clear(events, n, a, x, y),
-        10 => runlog::near(ticks, n, x, y, a, row.b),
-        11 => !runlog::near(ticks, n, x, y, a, row.b),
-        12 => runlog::has(events, n, a, x),
+        9 => runlog::clear(events, n, set, x, y),
+        10 => runlog::near(ticks, n, x, y, row.a, row.b),
+        11 => !runlog::near(ticks, n, x, y, row.a, row.b),
+        12 => runlog::has(events, n, set, x),
         _ => false,
     }
 }

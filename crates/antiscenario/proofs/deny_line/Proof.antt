@@ -14,10 +14,10 @@ deny-before-requires : tie.Need-deny-before-requires
 deny-before-requires c κs = subst (λ (w : ℕ). c .before .args .v < w) (sym (weight-6 _ _ _ (c .match .keys3))) (c .before .pre .0)
 
 returns : tie.Need-returns
-returns c = own-2 (c .before .before .args .far) (c .before .before .args .line) (c .before .before .args .v) (c .before .before .pre .0) (c .before .match .keys1) ∙ ap (λ (r : Line). r ∷ []) (sym (c .row .ensures))
+returns c = own-2 (c .before .before .args .far) (c .before .before .args .line) (c .before .before .args .v) (c .before .before .pre .0) (search needs) (c .before .match .keys1) ∙ ap (λ (r : Line). r ∷ []) (sym (c .row .ensures))
 
 returns-2 : tie.Need-returns-2
-returns-2 c = own-3 (c .before .before .args .far) (c .before .before .args .line) (c .before .before .args .v) (c .before .before .pre .0) (c .before .match .keys2) ∙ ap (λ (r : Line). r ∷ []) (sym (c .row2 .ensures))
+returns-2 c = own-3 (c .before .before .args .far) (c .before .before .args .line) (c .before .before .args .v) (c .before .before .pre .0) (search needs) (c .before .match .keys2) ∙ ap (λ (r : Line). r ∷ []) (sym (c .row2 .ensures))
 
 returns-3 : tie.Need-returns-3
 returns-3 c = own-6 (c .before .before .args .far) (c .before .before .args .line) (c .before .before .args .v) (c .before .before .pre .0) (c .before .match .keys3) ∙ ap (λ (r : Line). r ∷ []) (sym (c .deny-before .ensures))
@@ -35,7 +35,9 @@ returns-7 : tie.Need-returns-7
 returns-7 c = own-11 (c .before .before .args .far) (c .before .before .args .line) (c .before .before .args .v) (c .before .before .pre .0) (c .before .match .keys7) ∙ ap (λ (r : Line). r ∷ []) (sym (c .row6 .ensures))
 
 returns-8 : tie.Need-returns-8
-returns-8 c = own-12 (c .before .before .before .args .far) (c .before .before .before .args .line) (c .before .before .before .args .v) (c .before .before .before .pre .0) (c .before .before .match .keys8) ∙ ap (λ (r : Line). r ∷ []) (sym (c .row7 .ensures))
+returns-8 c =
+    let s = c .before .before .before .before in
+    own-12 (s .args .far) (s .args .line) (s .args .v) (s .pre .0) (search needs) (c .before .before .before .match .keys8) ∙ ap (λ (r : Line). r ∷ []) (sym (c .row7 .ensures))
 
 returns-9 : tie.Need-returns-9
 returns-9 c =
@@ -54,6 +56,7 @@ deny-line-spec =
     (λ c κs. search needs)
     (λ c κs. search needs)
     (λ c κs. search needs)
+    (λ c. search needs)
     (λ c. search needs)
     (λ c κs. search needs)
     (λ c κs. search needs)

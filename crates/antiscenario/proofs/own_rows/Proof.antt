@@ -13,7 +13,7 @@ returns c =
     let d = c .before .before in
     let s = d .before .before .before .before .before in
     let a = s .args in
-    free-own (a .far) (a .line) (a .v) (a .at) _ (a .out .now) _ (d .before .before .if1 .taken) (s .pre .0) (d .deny-free .ensures .0) (d .deny-free .ensures .1)
+    free-own (a .far) (a .line) (a .v) (a .at) _ (a .out .now) _ (search needs) (d .before .before .if1 .taken) (s .pre .0) (d .deny-free .ensures .0) (d .deny-free .ensures .1)
 
 returns-2 : tie.Need-returns-2
 returns-2 c = done-one _ _ _ (c .before .before .before .deny-line .result) _ (c .before .before .before .deny-line .ensures) (c .before .before .put-line .ensures)
