@@ -20,11 +20,12 @@ pub mod Halves
 pub mod Logs
 pub mod Reading
 pub mod Final
--- What stands beside: denials, patterns, at most one extension, a search's steps, rows and numbers, and the paper's examples.
+-- What stands beside: denials, patterns, at most one extension, a search's steps, rows and numbers, old sheets, and the paper's examples.
 pub mod Closure
 pub mod InOrder
 pub mod Patterns
 pub mod Unique
 pub mod Prefix
 pub mod Numbers
+pub mod Before
 pub mod Examples

@@ -37,7 +37,7 @@ flip p s h = ⊎-elim
     odd q = omega arith
 
 -- the complement in k bits
-inSet-complement : (e k s : ℕ) → e < k → s < 2 ^ k → inSet (2 ^ k - 1 - s) e ≡ not (inSet s e)
+pub inSet-complement : (e k s : ℕ) → e < k → s < 2 ^ k → inSet (2 ^ k - 1 - s) e ≡ not (inSet s e)
 inSet-complement e zero s h l = absurd (omega arith)
 inSet-complement zero (suc k) s h l =
     inSet-zero (2 ^ suc k - 1 - s) ∙ ap (λ (p : ℕ). eqb ((p - 1 - s) % 2) 1) (pow-succ' 2 k)

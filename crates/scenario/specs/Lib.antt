@@ -8,3 +8,4 @@ pub mod Fields
 pub mod Walk
 pub mod Search
 pub mod Reading
+pub mod Before
