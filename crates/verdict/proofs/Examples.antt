@@ -109,6 +109,25 @@ twice2 = text.sheetText 1 (row.six 0 1 1 0 8 0 ∷ row.six 0 1 2 0 8 0 ∷ row.s
 abbrev bare : ℕ → List ℕ
 bare k = text.sheetText k []
 
+-- document 02, A1: event 33 of a newer board where the sheet asks for event 0; and a rule over events 32, 33, 40 and 63
+abbrev upper : List ℕ
+upper = text.sheetText 1 (row.six 0 1 1 0 0 2 ∷ row.six 1 12 1 0 1 0 ∷ [])
+
+abbrev upper1 : List ℕ
+upper1 = text.sheetText 1 (row.six 0 1 1 0 0 2 ∷ row.six 1 12 1 0 4294967294 4294967295 ∷ [])
+
+abbrev board : List ℕ
+board = text.sheetText 1 (row.six 0 1 1 0 0 2 ∷ row.six 1 3 11 1 0 1 ∷ row.six 1 9 11 1 0 256 ∷ row.six 1 2 12 1 0 2147483648 ∷ [])
+
+abbrev board1 : List ℕ
+board1 = text.sheetText 1 (row.six 0 1 1 0 0 2 ∷ row.six 1 9 0 1 0 1 ∷ [])
+
+abbrev board2 : List ℕ
+board2 = text.sheetText 1 (row.six 0 1 1 0 0 2 ∷ row.six 1 3 11 1 0 1 ∷ row.six 1 1 19 0 0 256 ∷ row.six 1 6 11 19 0 0 ∷ row.six 1 6 19 1 0 0 ∷ [])
+
+abbrev board4 : List ℕ
+board4 = text.sheetText 1 (row.six 0 1 1 0 0 2 ∷ row.six 1 9 1 99 0 2147483648 ∷ [])
+
 -- The table
 
 abbrev example : (s l : List ℕ) (m : ℕ) → (count unwritten : ℕ) (written : List ℕ) (unsearched : ℕ) (hit : Bool) (places : List ℕ) (refusal : ℕ) (violated : Bool) (positions rows : List ℕ) → Example
@@ -141,6 +160,12 @@ starred =
     -- one scan: number 1 none, number 2 (SAME) at 1, 1
     ∷ example twice (logText ((10, 3) ∷ [])) 1 2 0 twice1 0 false (0 ∷ 0 ∷ 0 ∷ []) 0 true (1 ∷ 1 ∷ []) (3 ∷ [])
     ∷ example twice (logText ((10, 3) ∷ [])) 2 2 0 twice2 0 true (1 ∷ 1 ∷ 0 ∷ []) 0 true (1 ∷ 1 ∷ []) (3 ∷ [])
+    -- A1: violated, and the pattern finds it; a newer board's rule kept, and broken in LAST, FREE and NEXT
+    ∷ example upper (logText ((10, 33) ∷ [])) 1 1 0 upper1 0 true (1 ∷ 0 ∷ 0 ∷ []) 0 true (1 ∷ []) (2 ∷ [])
+    ∷ example board (logText ((10, 32) ∷ (20, 33) ∷ (30, 63) ∷ [])) 4 4 0 board4 0 false (0 ∷ 0 ∷ 0 ∷ []) 0 false [] []
+    ∷ example board (logText ((10, 0) ∷ (20, 33) ∷ (30, 63) ∷ [])) 1 4 0 board1 0 true (2 ∷ 0 ∷ 0 ∷ []) 0 true (2 ∷ []) (2 ∷ [])
+    ∷ example board (logText ((10, 32) ∷ (20, 40) ∷ (30, 33) ∷ (40, 63) ∷ [])) 2 4 0 board2 0 true (3 ∷ 1 ∷ 2 ∷ []) 0 true (3 ∷ []) (3 ∷ [])
+    ∷ example board (logText ((10, 32) ∷ (20, 33) ∷ (30, 31) ∷ [])) 4 4 0 board4 0 true (2 ∷ 0 ∷ 0 ∷ []) 0 true (2 ∷ []) (4 ∷ [])
     ∷ []
 
 pub starred-examples : map (λ (x : Example). answered (x .sheet) (x .log) (x .number)) starred ≡ map (λ (x : Example). x .answers) starred
@@ -149,7 +174,7 @@ unfolding number.fieldAt number.numeral number.scan spelling.spell spelling.left
     reading.answer reading.taken reading.closing reading.headOf reading.rowsFrom reading.rowBytes reading.after reading.sheetOf reading.section reading.sections reading.rowIn
     row.lineOf row.refusal row.sectionFits row.refusalWithin row.originFits row.kindFits row.pFits row.isDue row.ordinary row.known row.qFits row.knownBut row.ordinaryBut row.bothOrdinary row.restFits row.setOnly row.bothZero row.roomFits row.enter row.advance
     log.answer log.taken log.closing log.headOf log.linesFrom log.lineBytes log.lineOf log.logOf
-    rows.denials rows.denying-rows rows.denying-free rows.end rows.far-end rows.closure rows.brings rows.elem rows.complement rows.meets rows.points rows.clear rows.below rows.between
+    rows.denials rows.denying-rows rows.denying-free rows.end rows.far-end rows.closure rows.brings rows.elem rows.set-of rows.lower-half rows.upper-half rows.complement rows.meets rows.points rows.clear rows.below rows.between
     fields.decode fields.fields fields.tagged fields.written
     sheets.count sheets.total sheets.choices sheets.choose sheets.chosen sheets.flat sheets.antiscenario sheets.matching sheets.all sheets.is-line sheets.env sheets.lookup
     logs.inSet logs.hasAt logs.tick logs.nearAt walks.placing walks.lowest-above walks.highest-below walks.advance walks.walk

@@ -1,5 +1,6 @@
 pub mod Demands
 pub mod DemandThree
+pub mod Before
 pub mod Showing
 pub mod Bound
 pub mod Printing

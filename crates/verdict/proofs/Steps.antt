@@ -43,9 +43,9 @@ stay-env false E = refl
 abbrev pub Advanced : List ℕ → Option (List ℕ) → Bool → List ℕ → Type 0
 Advanced E o r E' = (r ≡ isSome o) × (E' ≡ orKeep E o)
 
-module _ (ticks events E : List ℕ) (n kind p q a b y : ℕ) (H : Held ticks events n) (ey : y ≡ getD E q 0) where
+module _ (ticks events E : List ℕ) (n kind p q a b s y : ℕ) (H : Held ticks events n) (ey : y ≡ getD E q 0) where
   abbrev pub here : Option (List ℕ)
-  here = advanceIn (runAt ticks events n) E (decode kind p q a b)
+  here = advanceIn (runAt ticks events n) E (decode kind p q a b s)
 
   told : (o : Option (List ℕ)) (r : Bool) (E' : List ℕ) → here ≡ o → Advanced E o r E' → Advanced E here r E'
   told o r E' e g = subst (λ (z : Option (List ℕ)). Advanced E z r E') (sym e) g
@@ -54,11 +54,11 @@ module _ (ticks events E : List ℕ) (n kind p q a b y : ℕ) (H : Held ticks ev
   unfolding decode advanceIn
   at-1 k = rw k
 
-  at-2 : kind ≡ 2 → here ≡ ontoIn E p (orZero (lowest-above (hasAt (part events n) a) y (n - y)))
+  at-2 : kind ≡ 2 → here ≡ ontoIn E p (orZero (lowest-above (hasAt (part events n) s) y (n - y)))
   unfolding decode advanceIn
   at-2 k = rw (k, ey, part-length events n (H .lines .room))
 
-  at-3 : kind ≡ 3 → here ≡ ontoIn E p (orZero (highest-below (hasAt (part events n) a) y))
+  at-3 : kind ≡ 3 → here ≡ ontoIn E p (orZero (highest-below (hasAt (part events n) s) y))
   unfolding decode advanceIn
   at-3 k = rw (k, ey)
 
@@ -77,10 +77,10 @@ module _ (ticks events E : List ℕ) (n kind p q a b y : ℕ) (H : Held ticks ev
     put-gone : Advanced E (ontoIn E p x) r E'
     put-gone = (er ∙ sym (onto-met (eqb x 0) E (set E p x)), ee ∙ sym (onto-env (eqb x 0) E (set E p x)))
 
-    pub advanced-next : kind ≡ 2 → x ≡ orZero (lowest-above (hasAt (part events n) a) y (n - y)) → Advanced E here r E'
+    pub advanced-next : kind ≡ 2 → x ≡ orZero (lowest-above (hasAt (part events n) s) y (n - y)) → Advanced E here r E'
     advanced-next k f = told (ontoIn E p x) r E' (at-2 k ∙ ap (ontoIn E p) (sym f)) put-gone
 
-    pub advanced-last : kind ≡ 3 → x ≡ orZero (highest-below (hasAt (part events n) a) y) → Advanced E here r E'
+    pub advanced-last : kind ≡ 3 → x ≡ orZero (highest-below (hasAt (part events n) s) y) → Advanced E here r E'
     advanced-last k f = told (ontoIn E p x) r E' (at-3 k ∙ ap (ontoIn E p) (sym f)) put-gone
 
   module _ (z x : ℕ) (E' : List ℕ) (ez : z ≡ getD E a 0) (ee : E' ≡ set E p x) where
@@ -92,7 +92,7 @@ module _ (ticks events E : List ℕ) (n kind p q a b y : ℕ) (H : Held ticks ev
 
   -- the other kinds are tests
   test : (k : ℕ) → (k ≡ 1 → ⊥) → (k ≡ 2 → ⊥) → (k ≡ 3 → ⊥) → (k ≡ 4 → ⊥) → (k ≡ 5 → ⊥)
-      → advanceIn (runAt ticks events n) E (decode k p q a b) ≡ stayIn (meets (runAt ticks events n) (by E) (decode k p q a b)) E
+      → advanceIn (runAt ticks events n) E (decode k p q a b s) ≡ stayIn (meets (runAt ticks events n) (by E) (decode k p q a b s)) E
   unfolding decode advanceIn
   test zero c d e f g = refl
   test (suc zero) c d e f g = absurd (c refl)
@@ -110,7 +110,7 @@ module _ (ticks events E : List ℕ) (n kind p q a b y : ℕ) (H : Held ticks ev
   test (suc (suc (suc (suc (suc (suc (suc (suc (suc (suc (suc (suc (suc k))))))))))))) c d e f g = refl
 
   pub advanced-test : (kind ≡ 1 → ⊥) → (kind ≡ 2 → ⊥) → (kind ≡ 3 → ⊥) → (kind ≡ 4 → ⊥) → (kind ≡ 5 → ⊥)
-      → (r : Bool) → r ≡ meets (runAt ticks events n) (by E) (decode kind p q a b) → Advanced E here r E
+      → (r : Bool) → r ≡ meets (runAt ticks events n) (by E) (decode kind p q a b s) → Advanced E here r E
   advanced-test c d e f g r er =
       told (stayIn r E) r E (test kind c d e f g ∙ ap (λ (t : Bool). stayIn t E) (sym er)) (sym (stay-met r E), sym (stay-env r E))
 

@@ -1,4 +1,5 @@
 pub mod Check
+pub mod Before
 pub mod Demands
 pub mod Showing
 pub mod Printing

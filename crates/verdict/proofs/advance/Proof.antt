@@ -15,7 +15,7 @@ returns c =
     let t = c .before in
     let s = t .before .before .before .before .before in
     let a = s .args in
-    advanced-point (a .ticks .now) (a .events .now) (a .env .now) (a .n) (a .row .kind) (a .row .p) (a .row .q) (a .row .a) (a .row .b) (t .at .result) (s .pre) (t .at .ensures) (c .if1 .taken)
+    advanced-point (a .ticks .now) (a .events .now) (a .env .now) (a .n) (a .row .kind) (a .row .p) (a .row .q) (a .row .a) (a .row .b) (a .row .set) (t .at .result) (s .pre) (t .at .ensures) (c .if1 .taken)
 
 first-after-requires : tie.Need-first-after-requires
 first-after-requires c κs = search needs
@@ -32,7 +32,7 @@ returns-2 c =
     let s = t .before .before .before .before .before in
     let a = s .args in
     let u = c .before .before .put in
-    advanced-next (a .ticks .now) (a .events .now) (a .env .now) (a .n) (a .row .kind) (a .row .p) (a .row .q) (a .row .a) (a .row .b) (t .at .result) (s .pre) (t .at .ensures) (c .before .before .before .first-after .result) (u .result) (u .last .0) (u .ensures .0) (u .ensures .1) (c .before .before .before .before .before .if2 .taken) (c .before .before .before .first-after .ensures)
+    advanced-next (a .ticks .now) (a .events .now) (a .env .now) (a .n) (a .row .kind) (a .row .p) (a .row .q) (a .row .a) (a .row .b) (a .row .set) (t .at .result) (s .pre) (t .at .ensures) (c .before .before .before .first-after .result) (u .result) (u .last .0) (u .ensures .0) (u .ensures .1) (c .before .before .before .before .before .if2 .taken) (c .before .before .before .first-after .ensures)
 
 last-before-requires : tie.Need-last-before-requires
 last-before-requires c κs = search needs
@@ -49,10 +49,10 @@ returns-3 c =
     let s = t .before .before .before .before .before in
     let a = s .args in
     let u = c .before .before .put2 in
-    advanced-last (a .ticks .now) (a .events .now) (a .env .now) (a .n) (a .row .kind) (a .row .p) (a .row .q) (a .row .a) (a .row .b) (t .at .result) (s .pre) (t .at .ensures) (c .before .before .before .last-before .result) (u .result) (u .last .0) (u .ensures .0) (u .ensures .1) (c .before .before .before .before .before .if3 .taken) (c .before .before .before .last-before .ensures)
+    advanced-last (a .ticks .now) (a .events .now) (a .env .now) (a .n) (a .row .kind) (a .row .p) (a .row .q) (a .row .a) (a .row .b) (a .row .set) (t .at .result) (s .pre) (t .at .ensures) (c .before .before .before .last-before .result) (u .result) (u .last .0) (u .ensures .0) (u .ensures .1) (c .before .before .before .before .before .if3 .taken) (c .before .before .before .last-before .ensures)
 
-point-at-requires : tie.Need-point-at-requires
-point-at-requires c κs = search needs
+at-requires-2 : tie.Need-at-requires-2
+at-requires-2 c κs = search needs
 
 lower-requires : tie.Need-lower-requires
 lower-requires c κs = search needs
@@ -71,10 +71,10 @@ returns-4 c =
     let t = c .before .before .before .before .before .before .before .before .before .before .before .before in
     let s = t .before .before .before .before .before in
     let a = s .args in
-    advanced-earlier (a .ticks .now) (a .events .now) (a .env .now) (a .n) (a .row .kind) (a .row .p) (a .row .q) (a .row .a) (a .row .b) (t .at .result) (s .pre) (t .at .ensures) (c .before .before .before .before .before .before .point-at .result) (c .before .before .before .before .before .lower .result) (c .before .before .store .last .0) (c .before .before .before .before .before .before .point-at .ensures) (c .before .before .store .ensures) (c .before .before .before .before .before .before .before .before .if4 .taken) (c .before .before .before .before .before .lower .ensures)
+    advanced-earlier (a .ticks .now) (a .events .now) (a .env .now) (a .n) (a .row .kind) (a .row .p) (a .row .q) (a .row .a) (a .row .b) (a .row .set) (t .at .result) (s .pre) (t .at .ensures) (c .before .before .before .before .before .before .at2 .result) (c .before .before .before .before .before .lower .result) (c .before .before .store .last .0) (c .before .before .before .before .before .before .at2 .ensures) (c .before .before .store .ensures) (c .before .before .before .before .before .before .before .before .if4 .taken) (c .before .before .before .before .before .lower .ensures)
 
-point-at-requires-2 : tie.Need-point-at-requires-2
-point-at-requires-2 c κs = search needs
+at-requires-3 : tie.Need-at-requires-3
+at-requires-3 c κs = search needs
 
 higher-requires : tie.Need-higher-requires
 higher-requires c κs = search needs
@@ -93,7 +93,7 @@ returns-5 c =
     let t = c .before .before .before .before .before .before .before .before .before .before .before .before .before in
     let s = t .before .before .before .before .before in
     let a = s .args in
-    advanced-later (a .ticks .now) (a .events .now) (a .env .now) (a .n) (a .row .kind) (a .row .p) (a .row .q) (a .row .a) (a .row .b) (t .at .result) (s .pre) (t .at .ensures) (c .before .before .before .before .before .before .point-at2 .result) (c .before .before .before .before .before .higher .result) (c .before .before .store2 .last .0) (c .before .before .before .before .before .before .point-at2 .ensures) (c .before .before .store2 .ensures) (c .before .before .before .before .before .before .before .before .if5 .taken) (c .before .before .before .before .before .higher .ensures)
+    advanced-later (a .ticks .now) (a .events .now) (a .env .now) (a .n) (a .row .kind) (a .row .p) (a .row .q) (a .row .a) (a .row .b) (a .row .set) (t .at .result) (s .pre) (t .at .ensures) (c .before .before .before .before .before .before .at3 .result) (c .before .before .before .before .before .higher .result) (c .before .before .store2 .last .0) (c .before .before .before .before .before .before .at3 .ensures) (c .before .before .store2 .ensures) (c .before .before .before .before .before .before .before .before .if5 .taken) (c .before .before .before .before .before .higher .ensures)
 
 meets-requires : tie.Need-meets-requires
 meets-requires c κs = search needs
@@ -106,7 +106,7 @@ returns-6 c =
     let t = c .before .before .before .before .before .before .before in
     let s = t .before .before .before .before .before in
     let a = s .args in
-    advanced-test (a .ticks .now) (a .events .now) (a .env .now) (a .n) (a .row .kind) (a .row .p) (a .row .q) (a .row .a) (a .row .b) (t .at .result) (s .pre) (t .at .ensures) (c .before .before .before .before .before .before .if1 .left) (c .before .before .before .before .before .if2 .left) (c .before .before .before .before .if3 .left) (c .before .before .before .if4 .left) (c .before .before .if5 .left) (c .meets .result) (c .meets .ensures)
+    advanced-test (a .ticks .now) (a .events .now) (a .env .now) (a .n) (a .row .kind) (a .row .p) (a .row .q) (a .row .a) (a .row .b) (a .row .set) (t .at .result) (s .pre) (t .at .ensures) (c .before .before .before .before .before .before .if1 .left) (c .before .before .before .before .before .if2 .left) (c .before .before .before .before .if3 .left) (c .before .before .before .if4 .left) (c .before .before .if5 .left) (c .meets .result) (c .meets .ensures)
 
 pub advance-spec : {M : Type 1} → statement M
 advance-spec =
@@ -123,13 +123,13 @@ advance-spec =
     put-requires-2
     same-length-3
     returns-3
-    point-at-requires
+    at-requires-2
     lower-requires
     cast-store
     store-requires
     same-length-4
     returns-4
-    point-at-requires-2
+    at-requires-3
     higher-requires
     cast-store-2
     store-requires-2

@@ -52,7 +52,7 @@ row-is c =
     ⊎-elim
     (λ v. v .2 ∙ sym (fault-end w (a .rows .now) (a .count) (at .consequents .c + 1) (r .env) (r .j) (v .0 .taken)) ∙ r .inv .2)
     (λ v. let k = v .5 .result in v .11 ∙ sym (stuck w (a .rows .now) (a .count) (at .consequents .c + 1) (r .env) (r .j) (v .0 .left) (v .2 .result) (v .2 .ensures) (v .3 .left)
-    (decode (k .kind) (k .p) (k .q) (k .a) (k .b)) (v .5 .ensures) (v .6 .result) (v .6 .ensures .0) (not-true _ (v .9 .taken))) ∙ r .inv .2)
+    (decode (k .kind) (k .p) (k .q) (k .a) (k .b) (k .set)) (v .5 .ensures) (v .6 .result) (v .6 .ensures .0) (not-true _ (v .9 .taken))) ∙ r .inv .2)
     (c .if1 .came)
     ∙ fault-same (a .rows .now) (a .count) (a .k) (s .pre .1) w (seen-laws (a .ticks .now) (a .events .now) (a .n) (s .pre .0)) (a .env .now) (at .consequents .env) (s .pre .2) (at .consequents .inv .2)
     (at .consequents .c) (c .before .before .consequents-test .taken)
@@ -73,7 +73,7 @@ env-is c =
     (⊎-elim
     (λ v. subst (Kept ts (r .env)) (sym (v .1)) (kept-all ts (r .env)))
     (λ v. let k = v .5 .result in row-keeps (runAt (a .ticks .now) (a .events .now) (a .n)) (a .rows .now) (a .count)
-    (r .env) (c .if1 .env) (r .j) (at .consequents .c) (v .2 .result) (v .0 .left) (v .2 .ensures) (v .3 .left) (decode (k .kind) (k .p) (k .q) (k .a) (k .b)) (v .5 .ensures)
+    (r .env) (c .if1 .env) (r .j) (at .consequents .c) (v .2 .result) (v .0 .left) (v .2 .ensures) (v .3 .left) (decode (k .kind) (k .p) (k .q) (k .a) (k .b) (k .set)) (v .5 .ensures)
     (ap (λ (z : List ℕ). length z) (v .10) ∙ v .6 .kept .1 .1 .1 .0) (v .10 ∙ v .6 .ensures .1))
     (c .if1 .came)))
 
@@ -107,7 +107,7 @@ rows-again-2 c =
     let t = c .before .before .before .before .before .before .before .section-of in
     let v = c .before .before .before .advance in
     let row = c .before .before .before .before .row-at in
-    let k = decode (row .result .kind) (row .result .p) (row .result .q) (row .result .a) (row .result .b) in (
+    let k = decode (row .result .kind) (row .result .p) (row .result .q) (row .result .a) (row .result .b) (row .result .set) in (
       omega (arith, h),
       kept-on (tagsOf (a .rows .now) (a .count)) (at .consequents .env) (r .env) (v .last .1 .1 .1 .0) (r .inv .1)
           (row-keeps w (a .rows .now) (a .count) (r .env) (v .last .1 .1 .1 .0) (r .j) (at .consequents .c)
