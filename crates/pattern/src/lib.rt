@@ -25,6 +25,9 @@ pub const MOST_POINTS: usize = 58;
 // Room for 200 rows, more than an antiscenario has, six numbers to a row.
 pub const ROWS_ROOM: usize = 1200;
 
+// 2^32: what a 1 of the upper half counts in a set.
+const UPPER_ONE: u64 = 4294967296;
+
 // A row's five numbers, and the set whose halves a and b are where the kind has one.
 pub struct Row {
     pub kind: u32,
@@ -50,7 +53,7 @@ pub fn at(env: &[u32], m: u32) -> u32
 fn set_of(a: u32, b: u32) -> u64
     ensures { λ r. ⌜ r ≡ setOf a b ⌝ }
 {
-    a as u64 + 4294967296 * b as u64
+    a as u64 + UPPER_ONE * b as u64
 }
 
 // Row j of rows in memory, six numbers to a row.

@@ -39,9 +39,9 @@ unfolding upper-half
 halves-fit s h = omega arith
 
 -- "It is empty when both are 0."
-pub empty-halves : (a b : ℕ) → set-of a b ≡ 0 → (a ≡ 0) × (b ≡ 0)
-unfolding set-of
-empty-halves a b h = (omega arith, omega arith)
+pub empty-halves : (s : ℕ) → lower-half s ≡ 0 → upper-half s ≡ 0 → s ≡ 0
+unfolding lower-half upper-half
+empty-halves s l u = omega arith
 
 -- taking both halves from 4,294,967,295 is taking the set from the full set
 pub complement-whole : (s : ℕ) → IsEvents s → complement s ≡ full-set - s

@@ -2,7 +2,7 @@
 -- Assumes nothing.
 use mathlib.Core.Bool.{Bool, false, not, _&&_, _||_, cond}
 use mathlib.Core.List.{List, [], _∷_, _++_, map}
-use Prim.Native.Nat.{ℕ, zero, suc, _+_, _-_, _*_, _/_, _%_, min, max}
+use Prim.Native.Nat.{ℕ, zero, suc, _+_, _-_, _*_, _/_, _%_, _^_, min, max}
 use lib.Dec.{ltb, eqb}
 
 -- "1 POINT .. 12 EVENT": a row, a constructor to a kind, in the order of the numbers. p and q are point numbers, and so is a of EARLIER and LATER;
@@ -26,13 +26,13 @@ full-set = 18446744073709551615
 
 -- A1: "the set is a + 2^32 × b": the set of two halves, the lower and the upper half of a set, and the half that is full
 unfoldable pub set-of : (a b : ℕ) → ℕ
-set-of a b = a + 4294967296 * b
+set-of a b = a + 2 ^ 32 * b
 
 unfoldable pub lower-half : ℕ → ℕ
-lower-half s = s % 4294967296
+lower-half s = s % 2 ^ 32
 
 unfoldable pub upper-half : ℕ → ℕ
-upper-half s = s / 4294967296
+upper-half s = s / 2 ^ 32
 
 abbrev pub full-half : ℕ
 full-half = 4294967295

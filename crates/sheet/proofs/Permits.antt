@@ -5,7 +5,7 @@ use mathlib.Core.Path.{_≡_, refl, sym, ap, _∙_}
 use mathlib.Core.Logic.{inl, inr}
 use mathlib.Core.Bool.{Bool, true, false, not, _&&_, _||_}
 use mathlib.Core.List.{List, [], _∷_, _++_, append-nil}
-use Prim.Native.Nat.{ℕ, zero, suc, _+_, _*_, _/_, _%_, _≤_, _<_}
+use Prim.Native.Nat.{ℕ, zero, suc, _+_, _*_, _≤_, _<_}
 use native.Mathlib.Omega.{arith}
 use lib.ListN.{length}
 use lib.Dec.{T, eqb, leb, ltb}
@@ -15,7 +15,7 @@ use Rattle.scenario.specs.Fields.{Tagged, fields}
 use Rattle.scenario.specs.Reading.{Ordinary, Counted, Seen, first, final, antecedent as seen-antecedent, own as seen-own}
 use Rattle.scenario.proofs.Base.{elem-at, Order, lower, level, upper, order}
 use Rattle.scenario.proofs.Reading.{counted-in, counted-all}
-use Rattle.scenario.proofs.Halves.{lower-half-fits, upper-half-fits, halves-fit}
+use Rattle.scenario.proofs.Halves.{lower-half-fits, upper-half-fits, halves-fit, empty-halves}
 use Rattle.sheet.specs.declared.Line.{Line}
 use Rattle.sheet.specs.Row.{ordinary, known, isDue, knownBut, ordinaryBut, bothOrdinary, kindFits, pFits, originFits, qFits, setOnly, bothZero, restFits}
 use Rattle.sheet.specs.Text.{Fits, numbersOf}
@@ -196,17 +196,17 @@ module _ (front : List Tagged) (i a c : ℕ) (F : Found front i a c) where
 
   -- "It is empty when both are 0."
   set-in : (s : ℕ) → SomeEvents s → setOnly 0 (lower-half s) (upper-half s) ≡ true
-  unfolding setOnly bothZero lower-half upper-half
-  set-in s E = go (eqb (s % 4294967296) 0) (eqb (s / 4294967296) 0) refl refl
+  unfolding setOnly bothZero
+  set-in s E = go (eqb (lower-half s) 0) (eqb (upper-half s) 0) refl refl
     where
-      go : (x y : Bool) → eqb (s % 4294967296) 0 ≡ x → eqb (s / 4294967296) 0 ≡ y → not (x && y) ≡ true
-      go true true ex ey = absurd (E .non-empty (omega (arith, eqb-true (s % 4294967296) 0 ex, eqb-true (s / 4294967296) 0 ey)))
+      go : (x y : Bool) → eqb (lower-half s) 0 ≡ x → eqb (upper-half s) 0 ≡ y → not (x && y) ≡ true
+      go true true ex ey = absurd (E .non-empty (empty-halves s (eqb-true (lower-half s) 0 ex) (eqb-true (upper-half s) 0 ey)))
       go true false ex ey = refl
       go false y ex ey = refl
 
   set-out : (s : ℕ) → upper-half s ≤ 4294967295 → setOnly 0 (lower-half s) (upper-half s) ≡ true → SomeEvents s
   unfolding setOnly bothZero lower-half upper-half
-  set-out s h e = record { fits = omega arith; non-empty = λ z. never (rw z at e) }
+  set-out s h e = record { fits = halves-fit s h; non-empty = λ z. never (rw z at e) }
 
   -- The row's tests
   pub record Tests (l : Line) : Type 0 where

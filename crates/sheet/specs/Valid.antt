@@ -69,7 +69,7 @@ pub record Pair (Permitted : ℕ → Type 0) (p q : ℕ) : Type 0 where
 
 -- Sets and limits
 
--- "Sets are non-empty, except in EVENT."
+-- "Sets are non-empty, except in EVENT." They are of the events that there are.
 pub record SomeEvents (s : ℕ) : Type 0 where
   pub fits : s ≤ full-set
   pub non-empty : s ≡ 0 → ⊥
