@@ -9,7 +9,6 @@ use satskhubo_tests::generate::targeted::with_denials;
 use satskhubo_tests::generate::Pair;
 use satskhubo_tests::host::Host;
 use satskhubo_tests::outcome::{Side, GUARD};
-use satskhubo_tests::reference::log::{Line, Log};
 
 const NUMBER_3: &str = "  1  5
   0  1  1  0          8          0
@@ -97,8 +96,8 @@ fn counts_and_refusals() {
     assert_eq!(Host.read_sheet(&with_denials([4, 4, 4, 4, 5, 4])).count, 5120);
     assert_eq!(Host.read_sheet(b"  7  0\n").answer, 2);
     assert_eq!(Host.read_log(&log_of(&vec![(0, 1); 4001]).text()).answer, 22);
-    let mut log: Log = log_of(&[(1, 1)]);
-    log.lines = vec![Line { tick: 1, event: 32 }];
-    assert_eq!(Host.read_log(&log.text()).answer, 25);
+    // Document 02, A1: 32 was refused.
+    assert_eq!(Host.read_log(&log_of(&[(1, 32)]).text()).lines, 1);
+    assert_eq!(Host.read_log(&log_of(&[(1, 64)]).text()).answer, 25);
     assert_eq!(Host.read_log(&log_of(&[(5, 1), (5, 1)]).text()).lines, 2);
 }
