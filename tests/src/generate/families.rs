@@ -153,20 +153,26 @@ pub fn small() -> Vec<Family> {
     ]
 }
 
+/// The sheets whose last row is as wanted.
+fn ending(sheets: Vec<Vec<Row>>, wanted: impl Fn(&Row) -> bool) -> Vec<Vec<Row>> {
+    sheets.into_iter().filter(|rows| rows.last().is_some_and(&wanted)).collect()
+}
+
 /// Document 02, A1: the families of the newer boards, for `board_logs`, compared whole each time.
 pub fn boards() -> Vec<Family> {
     let none = vec![vec![]];
     let one_row = HALVES.one_more(&none, 0);
-    let points = HALVES.sets.iter().map(|&set| vec![point(1, set)]).collect::<Vec<_>>();
-    let upper = vec![point(1, UPPER)];
-    let one = HALVES.one_more(&[none.clone(), points.clone()].concat(), 1);
-    let introduced = HALVES.one_more(&[upper.clone()], 1).into_iter().filter(|rows| rows[1].introduces());
-    let events = introduced.map(|rows| [rows, vec![Row::of_set(1, EVENT, 11, 0, UPPER)]].concat()).collect::<Vec<_>>();
+    let points: Vec<Vec<Row>> = HALVES.sets.iter().map(|&set| vec![point(1, set)]).collect();
+    let one = HALVES.one_more(&[none, points].concat(), 1);
+    let of_upper = HALVES.one_more(&[vec![point(1, UPPER)]], 1);
+    let introduced = ending(of_upper.clone(), Row::introduces);
+    let spoken_of = ending(HALVES.one_more(&introduced, 1), |row| [FREE, EVENT].contains(&row.kind));
+    let two = HALVES.one_more(&ending(of_upper, |row| row.set() == UPPER), 2);
     vec![
         Family::new("boards: antecedents of up to two rows", 0, &[one_row.clone(), HALVES.one_more(&one_row, 0)].concat()),
         Family::new("boards: a consequent of one row", 1, &one),
-        Family::new("boards: a point of a consequent and its event", 1, &events),
-        Family::new("boards: two consequents of one row", 2, &HALVES.one_more(&HALVES.one_more(&[upper], 1), 2)),
+        Family::new("boards: a consequent of a point and a set", 1, &spoken_of),
+        Family::new("boards: two consequents of one row", 2, &ending(two, |row| [NEXT, LAST, FREE, EVENT].contains(&row.kind))),
     ]
 }
 
