@@ -61,7 +61,8 @@ const MORE: Alphabet = Alphabet { sets: &[1, 2, 3], sets_of_event: &[0, 1, 2], l
 const LOWER: u64 = 1 << 1;
 const UPPER: u64 = 1 << 33;
 /// Sets of events 1 and 33: one of either half, and both.
-const HALVES: Alphabet = Alphabet { sets: &[LOWER, UPPER, LOWER | UPPER], sets_of_event: &[0, LOWER, UPPER], limits: &[(1, 1)] };
+const HALVES: Alphabet =
+    Alphabet { sets: &[LOWER, UPPER, LOWER | UPPER], sets_of_event: &[0, LOWER, UPPER, LOWER | UPPER], limits: &[(1, 1)] };
 
 fn pairs(points: &[u32]) -> Vec<(u32, u32)> {
     let all = points.iter().flat_map(|&p| points.iter().map(move |&q| (p, q)));

@@ -40,6 +40,7 @@ impl Log {
 
     /// The event at a position is in the set; start and close have no event.
     pub fn event_in(&self, position: u32, set: u64) -> bool {
+        // No set has event 64, which a blunder lets in.
         let Some(index) = position.checked_sub(1) else { return false };
         self.lines.get(index as usize).is_some_and(|line| line.event <= LAST_EVENT && set >> line.event & 1 == 1)
     }
