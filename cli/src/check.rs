@@ -86,13 +86,13 @@ impl Task {
     /// The rows of the antecedent's points, each with the number of lines that have its events.
     fn antecedent<'a>(&'a self, log: &'a Log) -> impl Iterator<Item = (&'a Row, usize)> {
         let points = self.opened.sheet.section(0).filter(|row| row.kind == Kind::Point);
-        points.map(|row| (row, log.lines.iter().filter(|line| is_in(line.event, row.a)).count()))
+        points.map(|row| (row, log.lines.iter().filter(|line| is_in(line.event, row.set())).count()))
     }
 
     /// On how many lines the antecedent's events stand, so that a sheet that holds on nothing is seen.
     fn events_in_words(&self, log: &Log) -> String {
         let points: Vec<(&Row, usize)> = self.antecedent(log).collect();
-        let lines_with = |row: &Row, lines| self.opened.events.lines_with(lines, row.a);
+        let lines_with = |row: &Row, lines| self.opened.events.lines_with(lines, row.set());
         match points[..] {
             [] => String::new(),
             [(row, lines)] => format!("; {}", lines_with(row, lines)),
@@ -108,8 +108,10 @@ impl Task {
     }
 
     fn holds_object(&self, name: &Name, log: &Log) -> String {
-        let point =
-            |(row, lines): (&Row, usize)| Object::new().number("point", row.p).number("set", row.a).number("lines", lines).end();
+        let point = |(row, lines): (&Row, usize)| {
+            let object = Object::new().number("point", row.p).number("set", row.set()).number("a", row.a).number("b", row.b);
+            object.number("lines", lines).end()
+        };
         no_facts(self.base(name, "holds")).raw("antecedent", &array(self.antecedent(log).map(point))).end() + "\n"
     }
 

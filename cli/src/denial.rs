@@ -1,4 +1,4 @@
-//! Document 01: denials. How many each row gives, and the rows in which each ends.
+//! Document 01: denials. How many each row gives, and the rows in which each ends; document 02, A1: with both halves of a set.
 use crate::sheet::{Kind, Row, CLOSE, START};
 
 /// Which of a row's denials: some have a second.
@@ -33,14 +33,14 @@ pub fn rows(row: &Row, choice: Choice) -> Vec<Row> {
     let of = |kind, p, q, a, b| vec![Row { section, kind, p, q, a, b }];
     match (row.kind, choice) {
         (Kind::Point | Kind::Earlier | Kind::Later, _) => Vec::new(),
-        (Kind::Next, _) => of(Kind::Free, q, CLOSE, a, 0),
-        (Kind::Last, _) => of(Kind::Free, START, q, a, 0),
+        (Kind::Next, _) => of(Kind::Free, q, CLOSE, a, b),
+        (Kind::Last, _) => of(Kind::Free, START, q, a, b),
         (Kind::Before, Choice::First) => of(Kind::Before, q, p, 0, 0),
         (Kind::Before, Choice::Second) | (Kind::Apart, _) => of(Kind::Same, p, q, 0, 0),
         (Kind::Same, _) => of(Kind::Apart, p, q, 0, 0),
         (Kind::Within, _) => of(Kind::Outside, p, q, a, b),
         (Kind::Outside, _) => of(Kind::Within, p, q, a, b),
-        (Kind::Event, _) => of(Kind::Event, p, 0, u32::MAX - a, 0),
+        (Kind::Event, _) => of(Kind::Event, p, 0, u32::MAX - a, u32::MAX - b),
         (Kind::Free, choice) => free_rows(row, choice),
     }
 }
@@ -53,7 +53,7 @@ fn free_rows(row: &Row, choice: Choice) -> Vec<Row> {
         (Choice::First, true) | (Choice::Second, false) => (row.q, row.p),
     };
     let before = |p, q| Row { section: row.section, kind: Kind::Before, p, q, a: 0, b: 0 };
-    let mut rows = vec![Row { section: row.section, kind: Kind::Point, p: between, q: 0, a: row.a, b: 0 }];
+    let mut rows = vec![Row { section: row.section, kind: Kind::Point, p: between, q: 0, a: row.a, b: row.b }];
     if !is_end(low) {
         rows.push(before(low, between));
     }

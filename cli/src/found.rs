@@ -75,18 +75,18 @@ impl<'a> Walk<'a> {
 
     fn next(&self, row: &Row) -> Option<u32> {
         let mut after = self.position(row.q)? + 1..self.log.close_position();
-        after.find(|&position| self.log.has_event_of(position, row.a))
+        after.find(|&position| self.log.has_event_of(position, row.set()))
     }
 
     fn last(&self, row: &Row) -> Option<u32> {
         let before = 1..self.position(row.q)?;
-        before.rev().find(|&position| self.log.has_event_of(position, row.a))
+        before.rev().find(|&position| self.log.has_event_of(position, row.set()))
     }
 
     fn between(&self, row: &Row) -> Option<u32> {
         let (p, q) = (self.position(row.p)?, self.position(row.q)?);
         let mut inside = p.min(q) + 1..p.max(q);
-        inside.find(|&position| self.log.has_event_of(position, row.a))
+        inside.find(|&position| self.log.has_event_of(position, row.set()))
     }
 
     /// Which of the row's denials is what was found.

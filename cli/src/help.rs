@@ -15,7 +15,7 @@ SHEET and LOG are files; - is standard input. A LOG may be a folder: all files b
 Options stand behind the command:
     --plain          numbers in columns
     --json           JSON, one object a line
-    --events FILE    names of events, a line each: 3 scan (else the file `events` beside the sheet, where there is one)
+    --events FILE    names of events 0 to 63, a line each: 3 scan (else the file `events` beside the sheet, if there is one)
     --number M       of the antiscenario; FIRST-LAST for some of them
     --               ends the options, for names that begin with a dash
 Exit status: 0 all hold, or nothing is found; 1 some are violated, or found; 2 something is refused, not read or failed.
@@ -28,7 +28,8 @@ One log: the verdict with the lines of the antecedent's points, and for each con
 what it asks and what was found. Several logs, or a folder: a line each and a summary.
 --plain: refusal (3 columns), verdict (3; 1 violated); when violated a line of positions (5 each), and one of rows (4 each).
 --json: an object a log: file, sheet, verdict (holds, violated, refused, unreadable), refusal, positions, lines, ticks, events,
-rows (consequent, row, kind, asked, found); of, line and words of a refusal; error.
+rows (consequent, row, kind, asked, found); of a log that holds, antecedent (point, set, a, b, lines), where the set is
+a + 2^32 b; of, line and words of a refusal; error.
 Exit status: 0 all hold; 1 some are violated; 2 something is refused, not read or failed.
 ";
 

@@ -49,12 +49,12 @@ impl Log {
         self.line(position).map(|line| line.tick)
     }
 
-    pub fn has_event_of(&self, position: u32, set: u32) -> bool {
+    pub fn has_event_of(&self, position: u32, set: u64) -> bool {
         self.line(position).is_some_and(|line| is_in(line.event, set))
     }
 }
 
 /// Document 01: a set of events is the sum of 2^e over its events.
-pub fn is_in(event: u32, set: u32) -> bool {
-    event < u32::BITS && set >> event & 1 == 1
+pub fn is_in(event: u32, set: u64) -> bool {
+    event < u64::BITS && set >> event & 1 == 1
 }

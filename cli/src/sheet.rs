@@ -67,6 +67,11 @@ impl Row {
     pub fn of([section, kind, p, q, a, b]: [u32; 6]) -> Option<Row> {
         Kind::of(kind).map(|kind| Row { section, kind, p, q, a, b })
     }
+
+    /// Document 02, A1: in kinds 1, 2, 3, 9 and 12 the set of events is a + 2^32 b.
+    pub fn set(&self) -> u64 {
+        u64::from(self.b) << u32::BITS | u64::from(self.a)
+    }
 }
 
 pub struct Sheet {

@@ -23,15 +23,15 @@ pub fn file_line(position: u32) -> u64 {
 pub fn asks(row: &Row, events: &Events) -> String {
     let (p, q, a, b) = (point(row.p), point(row.q), row.a, row.b);
     match row.kind {
-        Kind::Point | Kind::Event => format!("{p} has {}", events.set(a)),
-        Kind::Next => format!("{p} is the next line after {q} with {}", events.set(a)),
-        Kind::Last => format!("{p} is the last line before {q} with {}", events.set(a)),
+        Kind::Point | Kind::Event => format!("{p} has {}", events.set(row.set())),
+        Kind::Next => format!("{p} is the next line after {q} with {}", events.set(row.set())),
+        Kind::Last => format!("{p} is the last line before {q} with {}", events.set(row.set())),
         Kind::Earlier => format!("{p} is the earlier of {q} and {}", point(a)),
         Kind::Later => format!("{p} is the later of {q} and {}", point(a)),
         Kind::Before => format!("{p} stands before {q}"),
         Kind::Apart => format!("{p} and {q} are different lines"),
         Kind::Same => format!("{p} and {q} are the same line"),
-        Kind::Free => format!("{} between {p} and {q}", events.free_of(a)),
+        Kind::Free => format!("{} between {p} and {q}", events.free_of(row.set())),
         Kind::Within => format!("the ticks of {p} and {q} differ by {a} to {b}"),
         Kind::Outside => format!("the ticks of {p} and {q} do not differ by {a} to {b}"),
     }

@@ -2,11 +2,12 @@
 mod common;
 use common::{random_pairs, tallied, tell_tally};
 use satskhubo_tests::compare::{compare, compare_once, Tally};
+use satskhubo_tests::generate::families::{self, Family};
 use satskhubo_tests::generate::logs::{log_of, of_length};
 use satskhubo_tests::generate::pairs::large_pair_of;
 use satskhubo_tests::generate::sheets::{self, largest};
 use satskhubo_tests::generate::targeted::{all_before, fullest, with_denials};
-use satskhubo_tests::generate::{families, Pair};
+use satskhubo_tests::generate::Pair;
 use satskhubo_tests::host::Host;
 use satskhubo_tests::random::Random;
 
@@ -14,11 +15,10 @@ fn family_logs() -> Vec<Vec<u8>> {
     families::logs().iter().map(|log| log.text()).collect()
 }
 
-#[test]
-fn the_small_family_whole() {
-    let logs = family_logs();
+/// Every sheet of these families with every log.
+fn whole(families: Vec<Family>, logs: &[Vec<u8>]) -> Tally {
     let mut whole = Tally::default();
-    for family in families::small() {
+    for family in families {
         let pairs = family.sheets.iter().flat_map(|sheet| logs.iter().map(|log| Pair { sheet: sheet.clone(), log: log.clone() }));
         let tally: Tally = pairs.map(|pair| tallied(compare_once(&Host, &pair))).sum();
         assert_eq!(tally.whole, (family.sheets.len() * logs.len()) as u64, "{}", family.name);
@@ -28,7 +28,19 @@ fn the_small_family_whole() {
         );
         whole += tally;
     }
-    assert!(whole.comparisons >= 300_000);
+    whole
+}
+
+#[test]
+fn the_small_family_whole() {
+    assert!(whole(families::small(), &family_logs()).comparisons >= 300_000);
+}
+
+/// Document 02, A1: sets in the lower half, the upper and both, over two events that are alike but for 32.
+#[test]
+fn the_families_of_newer_boards_whole() {
+    let logs: Vec<Vec<u8>> = families::board_logs().iter().map(|log| log.text()).collect();
+    assert!(whole(families::boards(), &logs).comparisons >= 300_000);
 }
 
 /// Every so-many-th pair of each family, so that sheets meet different logs; `soak families` compares them whole.

@@ -1,11 +1,16 @@
-//! The checker can fail: each blunder of document 01, put into a copy of the reference, is found within a few pairs.
+//! The checker can fail: each blunder of document 01, and each slip in what document 02 asks, put into a copy of the reference, is found within
+//! a few pairs.
 mod common;
 use satskhubo_tests::compare::{compare, compare_once, Comparison, Mismatch};
-use satskhubo_tests::expected::Blundering;
+use satskhubo_tests::expected::{Blundering, VIOLATED};
+use satskhubo_tests::generate::families::{self, Family};
+use satskhubo_tests::generate::logs::log_of;
 use satskhubo_tests::generate::pairs::{large_pair_of, pair_of};
-use satskhubo_tests::generate::{families, Pair};
+use satskhubo_tests::generate::Pair;
 use satskhubo_tests::reference::blunder::Blunder;
+use satskhubo_tests::reference::log::Log;
 use satskhubo_tests::reference::operations::open;
+use satskhubo_tests::reference::sheet::{self, kind::*, Row};
 use std::io::Write;
 
 const MOST_PAIRS: u64 = 400;
@@ -32,12 +37,14 @@ fn is_found_in(blunder: Blunder, pair_of: fn(u64) -> Pair) {
     writeln!(std::io::stderr(), "{blunder:?} found at pair {pairs}: {first}").unwrap();
 }
 
-/// The blunders that let a run be missed or invented.
+/// The blunders of document 01 that let a run be missed or invented.
 const AGAINST_DEMAND_3: [Blunder; 5] =
     [Blunder::ReverseOnly, Blunder::DifferentLines, Blunder::EndsBetween, Blunder::BringsAll, Blunder::NoneWithoutConsequents];
+/// Document 02, A1: the slips that do.
+const IN_HALVES: [Blunder; 2] = [Blunder::EventDeniedBelow32, Blunder::UpperHalfLost];
 
 fn break_demand_3(name: &str, breaks: impl Fn(&mut Comparison<Blundering>) -> bool) {
-    for blunder in AGAINST_DEMAND_3 {
+    for blunder in AGAINST_DEMAND_3.into_iter().chain(IN_HALVES) {
         let broken = |seed: &u64| breaks(&mut Comparison::new(&Blundering(blunder), &pair_of(*seed), *seed));
         let pairs = (0..4 * MOST_PAIRS).find(broken).unwrap_or_else(|| panic!("{blunder:?} keeps {name}")) + 1;
         writeln!(std::io::stderr(), "{blunder:?} breaks {name} at pair {pairs}").unwrap();
@@ -65,17 +72,26 @@ fn demand_3_finds_them_where_both_blunder() {
     });
 }
 
-/// Every so-many-th pair of the small family that the gate compares whole is enough.
-#[test]
-fn the_small_family_finds_them() {
-    let logs: Vec<Vec<u8>> = families::logs().iter().map(|log| log.text()).collect();
-    let sheets: Vec<Vec<u8>> = families::small().into_iter().flat_map(|family| family.sheets).collect();
-    let pair = |index: usize| Pair { sheet: sheets[index / logs.len()].clone(), log: logs[index % logs.len()].clone() };
-    for blunder in AGAINST_DEMAND_3.into_iter().chain([Blunder::BringsEarlier]) {
+/// Every so-many-th pair of families that the gate compares whole is enough.
+fn are_found_in(families: Vec<Family>, logs: &[Log], blunders: impl Iterator<Item = Blunder>) {
+    let sheets: Vec<Vec<u8>> = families.into_iter().flat_map(|family| family.sheets).collect();
+    let pair = |index: usize| Pair { sheet: sheets[index / logs.len()].clone(), log: logs[index % logs.len()].text() };
+    for blunder in blunders {
         let mut indexes = (0..sheets.len() * logs.len()).step_by(31);
         let found = indexes.find(|&index| compare_once(&Blundering(blunder), &pair(index)).is_err());
         assert!(found.is_some(), "{blunder:?} is not found");
     }
+}
+
+#[test]
+fn the_small_family_finds_them() {
+    are_found_in(families::small(), &families::logs(), AGAINST_DEMAND_3.into_iter().chain([Blunder::BringsEarlier]));
+}
+
+#[test]
+fn the_families_of_newer_boards_find_them() {
+    let read_otherwise = [Blunder::UpperHalfEmpty, Blunder::EventWithoutUpperHalf, Blunder::BeforeA1];
+    are_found_in(families::boards(), &families::board_logs(), IN_HALVES.into_iter().chain(read_otherwise));
 }
 
 #[test]
@@ -115,6 +131,46 @@ fn taking_n_as_0_when_k_is_0() {
 fn counting_in_32_bits() {
     is_found_in(Blunder::CountIn32Bits, large_pair_of);
     is_found_in(Blunder::NumberIn32Bits, large_pair_of);
+}
+
+/// Document 02, A1.
+#[test]
+fn denying_event_in_the_lower_half_alone() {
+    is_found(Blunder::EventDeniedBelow32);
+    // A line with event 33 that should have 0: violated, and no pattern matches.
+    let rows = [Row::of_set(0, POINT, 1, 0, 1 << 33), Row::of_set(1, EVENT, 1, 0, 1)];
+    let (sheet, log) = (sheet::text(1, &rows), log_of(&[(1, 33)]).text());
+    let searched = |blunder| open(&sheet, &log, blunder).search(1, 1);
+    assert_eq!(open(&sheet, &log, Blunder::EventDeniedBelow32).checked().answer, VIOLATED);
+    assert_eq!((searched(Blunder::EventDeniedBelow32), searched(Blunder::None)), (Ok(None), Ok(Some(vec![1]))));
+    let pair = Pair { sheet, log };
+    assert!(Comparison::new(&Blundering(Blunder::EventDeniedBelow32), &pair, 0).demand_3_alone().is_err());
+}
+
+#[test]
+fn losing_the_upper_half_in_the_denial_of_next() {
+    is_found(Blunder::UpperHalfLost);
+}
+
+#[test]
+fn taking_a_set_of_the_upper_half_as_empty() {
+    is_found(Blunder::UpperHalfEmpty);
+}
+
+#[test]
+fn wanting_b_of_event_to_be_0() {
+    is_found(Blunder::EventWithoutUpperHalf);
+}
+
+#[test]
+fn accepting_event_64() {
+    is_found(Blunder::Event64);
+}
+
+/// What document 01 said before A1 is no longer what is answered.
+#[test]
+fn staying_with_32_events() {
+    is_found(Blunder::BeforeA1);
 }
 
 /// On large sheets too, where demand 3 goes by placements.

@@ -1,15 +1,11 @@
 //! All examples of document 01, through the C interface, with the answers that the document prints.
 mod common;
-use common::counted;
-use satskhubo_tests::compare::compare;
-use satskhubo_tests::expected::VIOLATED;
+use common::answers::{found, pair, verdict, written};
 use satskhubo_tests::generate::logs::log_of;
 use satskhubo_tests::generate::sheets::sheet_s;
 use satskhubo_tests::generate::targeted::with_denials;
-use satskhubo_tests::generate::Pair;
 use satskhubo_tests::host::Host;
-use satskhubo_tests::outcome::{Side, GUARD};
-use satskhubo_tests::reference::log::{Line, Log};
+use satskhubo_tests::outcome::Side;
 
 const NUMBER_3: &str = "  1  5
   0  1  1  0          8          0
@@ -19,38 +15,11 @@ const NUMBER_3: &str = "  1  5
   1  6 19  1          0          0
 ";
 
-fn pair(sheet: &[u8], lines: &[(u32, u32)]) -> Pair {
-    Pair { sheet: sheet.to_vec(), log: log_of(lines).text() }
-}
-
-/// The positions and the rows at fault, or none if the sheet holds.
-fn verdict(pair: &Pair) -> Option<(Vec<u32>, Vec<u32>)> {
-    counted(compare(&Host, pair, 0, 8));
-    let checked = Host.check(&pair.sheet, &pair.log);
-    assert_eq!(Host.check_number(&pair.sheet, &pair.log), checked.answer);
-    match checked.answer {
-        0 => None,
-        VIOLATED => Some((
-            checked.positions[GUARD..GUARD + checked.points as usize].to_vec(),
-            checked.rows[GUARD..GUARD + checked.consequents as usize].to_vec(),
-        )),
-        refusal => panic!("refused with {refusal}"),
-    }
-}
-
-fn found(pair: &Pair, number: u64) -> Option<Vec<u32>> {
-    let searched = Host.search(&pair.sheet, &pair.log, number, 58);
-    assert_eq!(searched.answer, 0);
-    let positions = searched.places[GUARD..].iter().copied().take_while(|&position| position <= 4001);
-    (searched.found == 1).then(|| positions.collect())
-}
-
 #[test]
 fn sheet_s_and_its_number_3() {
     let sheet = sheet_s();
     assert_eq!(Host.read_sheet(&sheet).count, 4);
-    let written = Host.write(&sheet, 3, 3437);
-    assert_eq!(&written.buffer[GUARD..GUARD + written.length], NUMBER_3.as_bytes());
+    assert_eq!(written(&sheet, 3), NUMBER_3);
 }
 
 #[test]
@@ -97,8 +66,8 @@ fn counts_and_refusals() {
     assert_eq!(Host.read_sheet(&with_denials([4, 4, 4, 4, 5, 4])).count, 5120);
     assert_eq!(Host.read_sheet(b"  7  0\n").answer, 2);
     assert_eq!(Host.read_log(&log_of(&vec![(0, 1); 4001]).text()).answer, 22);
-    let mut log: Log = log_of(&[(1, 1)]);
-    log.lines = vec![Line { tick: 1, event: 32 }];
-    assert_eq!(Host.read_log(&log.text()).answer, 25);
+    // Document 02, A1: 32 was refused.
+    assert_eq!(Host.read_log(&log_of(&[(1, 32)]).text()).lines, 1);
+    assert_eq!(Host.read_log(&log_of(&[(1, 64)]).text()).answer, 25);
     assert_eq!(Host.read_log(&log_of(&[(5, 1), (5, 1)]).text()).lines, 2);
 }

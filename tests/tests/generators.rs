@@ -5,6 +5,7 @@ use satskhubo_tests::generate::families;
 use satskhubo_tests::generate::pairs::{large_pair_of, pair_of};
 use satskhubo_tests::reference::antiscenario::antiscenario;
 use satskhubo_tests::reference::blunder::Blunder;
+use satskhubo_tests::reference::columns::read_line;
 use satskhubo_tests::reference::log::Log;
 use satskhubo_tests::reference::operations::{open, Opened, Verdict};
 use satskhubo_tests::reference::refusal::Refusal;
@@ -28,9 +29,50 @@ fn of_row(reached: &mut Reached, row: &Row) {
             count(reached, format!("kind {} with the {name}", row.kind));
         }
     }
-    if row.kind == EVENT && row.a == 0 {
+    if row.kind == EVENT && row.set() == 0 {
         count(reached, "EVENT with no event".into());
     }
+    if [POINT, NEXT, LAST, FREE, EVENT].contains(&row.kind) && row.set() != 0 {
+        count(reached, format!("kind {} with a set in {}", row.kind, HALVES[halves_of(row)]));
+    }
+}
+
+const HALVES: [&str; 3] = ["the lower half", "the upper half", "both halves"];
+
+fn halves_of(row: &Row) -> usize {
+    match (row.a, row.b) {
+        (_, 0) => 0,
+        (0, _) => 1,
+        _ => 2,
+    }
+}
+
+/// Document 02, A1: every kind that has a set, with one in either half and in both.
+fn sets_in_halves() -> Vec<String> {
+    let kinds = [POINT, NEXT, LAST, FREE, EVENT].into_iter();
+    kinds.flat_map(|kind| HALVES.map(|half| format!("kind {kind} with a set in {half}"))).collect()
+}
+
+/// A sheet refused with 9 for b, in the kinds that do not use it, and for a set that is empty in both halves.
+fn of_fields(reached: &mut Reached, text: &[u8]) {
+    let Err(fault) = sheet::read(text, Blunder::None) else { return };
+    if fault.refusal != Refusal::Fields {
+        return;
+    }
+    let fields = read_line(&text[fault.part.offset..][..fault.part.length], &[3, 3, 3, 3, 11, 11])
+        .expect("a row refused with 9 is well formed");
+    let (kind, a, b) = (fields[1], fields[4], fields[5]);
+    match kind {
+        EARLIER | LATER | BEFORE | APART | SAME if b != 0 => count(reached, format!("b of kind {kind} refused")),
+        POINT | NEXT | LAST | FREE if a == 0 && b == 0 => count(reached, format!("empty set of kind {kind} refused")),
+        _ => {}
+    }
+}
+
+fn fields_refused() -> Vec<String> {
+    let unused = [EARLIER, LATER, BEFORE, APART, SAME].map(|kind| format!("b of kind {kind} refused"));
+    let empty = [POINT, NEXT, LAST, FREE].map(|kind| format!("empty set of kind {kind} refused"));
+    unused.into_iter().chain(empty).collect()
 }
 
 /// Sections of a sheet without rows, and points of a matching in one position.
@@ -70,12 +112,14 @@ fn of_pair(reached: &mut Reached, seed: u64) {
     let pair = pair_of(seed);
     let opened = open(&pair.sheet, &pair.log, Blunder::None);
     of_refusals(reached, &opened, seed);
+    of_fields(reached, &pair.sheet);
     let (Ok(sheet), Ok(log)) = (&opened.sheet, &opened.log) else { return };
     sheet.rows.iter().for_each(|row| of_row(reached, row));
     of_sections_and_positions(reached, sheet, log);
     count(reached, format!("k {}", sheet.k));
     count(reached, format!("{} antecedent points", introduced(&sheet.rows, 0).len()));
     count(reached, format!("n {}", log.n()));
+    log.lines.iter().for_each(|line| count(reached, format!("event {}", line.event)));
     if sheet.count == 0 {
         count(reached, "N 0".into());
     }
@@ -117,6 +161,16 @@ fn the_small_family_has_every_kind() {
     are_reached(&reached, &[kinds_in(0..=1), kinds_with_ends(), vec!["EVENT with no event".into()]].concat());
 }
 
+#[test]
+fn the_families_of_newer_boards_have_every_half() {
+    let mut reached = Reached::new();
+    for text in families::boards().iter().flat_map(|family| &family.sheets) {
+        let sheet = sheet::read(text, Blunder::None).expect("a family's sheet is accepted");
+        sheet.rows.iter().for_each(|row| of_row(&mut reached, row));
+    }
+    are_reached(&reached, &[kinds_with_ends(), sets_in_halves()].concat());
+}
+
 /// Document 02, A4: far more than 4,096 antiscenarios, more than 32 bits can count among them, and logs that keep the sheet and that break it.
 #[test]
 fn large_pairs_reach_large_counts() {
@@ -155,7 +209,8 @@ fn random_pairs_reach_everything() {
     wanted.extend((0..=6).map(|n| format!("n {n}")));
     let refusals: Vec<String> = (1..=10).chain(21..=27).chain(31..=34).map(|refusal| format!("refusal {refusal}")).collect();
     wanted.extend(refusals.clone());
-    wanted.extend([kinds_in(0..=6), kinds_with_ends()].concat());
+    wanted.extend([kinds_in(0..=6), kinds_with_ends(), sets_in_halves(), fields_refused()].concat());
+    wanted.extend([0, 1, 31, 32, 33, 63].map(|event| format!("event {event}")));
     wanted.extend(["EVENT with no event", "a consequent skipped", "a consequent empty", "positions shared"].map(String::from));
     wanted.extend(["N 0", "holds", "holds by its consequents", "violated"].map(String::from));
     are_reached(&reached, &wanted);

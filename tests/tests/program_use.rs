@@ -318,7 +318,7 @@ fn names_of_events() {
     assert!(other.contains("event 3 (shot)") && !other.contains("injection"), "{other}");
     assert_eq!(run(&["check", "--events=others", "sheet", "log"]).answer().1, other);
     let wrong: [&[u8]; 9] = [
-        b"32 far",
+        b"64 far",
         b"3 a\n3 b",
         b"3",
         b"three scan",

@@ -57,15 +57,17 @@ fn a_log_that_holds_says_where_the_antecedent_is() {
 /// Every event of the set, since one of them is enough to break the row.
 #[test]
 fn free_of_several_events() {
-    let found = |set: u32, words: &str| {
-        let (status, text) = checked(1, &[[1, FREE, 0, 99, set, 0]], &[(7, 3)]);
+    let found = |set: u64, words: &str| {
+        let (status, text) = checked(1, &[[1, FREE, 0, 99, set as u32, (set >> 32) as u32]], &[(7, 3)]);
         let due = format!("    asked: {words} between the start and the close\n    found: {}, tick 7, has event 3\n", line(1));
         assert!(status == 1 && text.ends_with(&due), "{text}");
     };
     found(8, "event 3 does not occur");
     found(24, "none of the events 3, 4 occurs");
-    found(LARGEST, "no event occurs");
-    found(LARGEST - 16, "no event but 4 occurs");
+    found(8 + (1 << 63), "none of the events 3, 63 occurs");
+    found(LARGEST.into(), "none of the events 0 to 31 occurs");
+    found(u64::MAX, "no event occurs");
+    found(u64::MAX - 16, "no event but 4 occurs");
 }
 
 #[test]

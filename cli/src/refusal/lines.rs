@@ -1,5 +1,6 @@
 //! Lines of a log that are well formed and yet refused: 25, 26 and 27.
 use crate::columns::{fields, lines, LINE, LOG_FIRST};
+use crate::events::LAST_EVENT;
 use crate::words::line;
 use satskhubo_interface::answer::Answer;
 
@@ -21,8 +22,8 @@ fn tick_before(log: &[u8], index: usize) -> Answer<Option<(u32, String)>> {
 }
 
 pub fn event(log: &[u8], index: usize) -> Answer<Vec<String>> {
-    let found = line_of(log, index)?;
-    Ok(found.map(|[_, event]| format!("the event (columns 12 to 14) is {event}; events are 0 to 31")).into_iter().collect())
+    let said = |[_, event]: [u32; 2]| format!("the event (columns 12 to 14) is {event}; events are 0 to {LAST_EVENT}");
+    Ok(line_of(log, index)?.map(said).into_iter().collect())
 }
 
 pub fn tick(log: &[u8], index: usize) -> Answer<Vec<String>> {

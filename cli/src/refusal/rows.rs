@@ -146,17 +146,18 @@ pub fn fields(sheet: &[u8], index: usize) -> Answer<Vec<String>> {
         let row = refused.row()?;
         let kind = format!("{}, {}", row.kind as u32, row.kind.name());
         let unused: &[(&str, u32)] = match row.kind {
-            Kind::Point | Kind::Event => &[("q", row.q), ("b", row.b)],
-            Kind::Next | Kind::Last | Kind::Earlier | Kind::Later | Kind::Free => &[("b", row.b)],
+            Kind::Point | Kind::Event => &[("q", row.q)],
+            Kind::Earlier | Kind::Later => &[("b", row.b)],
             Kind::Before | Kind::Apart | Kind::Same => &[("a", row.a), ("b", row.b)],
-            Kind::Within | Kind::Outside => &[],
+            Kind::Next | Kind::Last | Kind::Free | Kind::Within | Kind::Outside => &[],
         };
         if let Some((field, value)) = unused.iter().find(|(_, value)| *value != 0) {
             return Some(format!("{field} is {value}; kind {kind}, does not use it, so 0 is due"));
         }
         match row.kind {
             Kind::Within | Kind::Outside => Some(format!("a is {}, above b, which is {}", row.a, row.b)),
-            _ => Some(format!("the set a is {}, the empty set; kind {kind}, needs an event in it", row.a)),
+            _ if row.set() == 0 => Some(format!("a and b are both 0, the empty set; kind {kind}, needs an event in it")),
+            _ => None,
         }
     })
 }

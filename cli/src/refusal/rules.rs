@@ -23,7 +23,7 @@ pub fn rule(refusal: Refusal) -> &'static str {
         Refusal::LineCount => "there are more than 4,000 lines",
         Refusal::LogLength => "the file's length is not 28 bytes and 15 for each line",
         Refusal::LineMalformed => "the line is malformed: tick (11 columns) and event (3), right-justified, then a line feed",
-        Refusal::Event => "the event is over 31",
+        Refusal::Event => "the event is over 63",
         Refusal::Tick => "the tick is below the one before",
         Refusal::Close => "the close is below the last tick",
         Refusal::Number => "there is no antiscenario of this number",

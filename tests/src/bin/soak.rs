@@ -5,6 +5,7 @@ use satskhubo_tests::generate::pairs::{large_pair_of, long_pair_of, pair_of};
 use satskhubo_tests::generate::{logs, sheets, Pair};
 use satskhubo_tests::host::Host;
 use satskhubo_tests::random::Random;
+use satskhubo_tests::reference::log::Log;
 use std::time::{Duration, Instant, SystemTime, UNIX_EPOCH};
 
 const USAGE: &str = "soak SECONDS [SEED], or soak families [PART of PARTS]";
@@ -16,8 +17,8 @@ fn usage() -> ! {
     std::process::exit(2)
 }
 
-fn family_logs() -> Vec<Vec<u8>> {
-    families::logs().iter().map(|log| log.text()).collect()
+fn texts(logs: &[Log]) -> Vec<Vec<u8>> {
+    logs.iter().map(Log::text).collect()
 }
 
 /// Adds what was compared, or tells the mismatch and ends.
@@ -50,7 +51,7 @@ fn larger_families(part: usize, parts: usize) {
     if part < 1 || part > parts {
         usage();
     }
-    let (begun, logs) = (Instant::now(), family_logs());
+    let (begun, logs) = (Instant::now(), texts(&families::logs()));
     let families = families::large();
     let all: usize = families.iter().map(|family| family.sheets.len() * logs.len()).sum();
     let tally: Tally = families.iter().map(|family| part_of_family(family, &logs, part, parts)).sum();
@@ -60,26 +61,42 @@ fn larger_families(part: usize, parts: usize) {
     );
 }
 
+/// Families' sheets, and the logs that go with them.
+struct Soaked {
+    sheets: Vec<Vec<u8>>,
+    logs: Vec<Vec<u8>>,
+}
+
+impl Soaked {
+    fn new(families: Vec<Family>, logs: &[Log]) -> Soaked {
+        Soaked { sheets: families.into_iter().flat_map(|family| family.sheets).collect(), logs: texts(logs) }
+    }
+
+    fn pair(&self, random: &mut Random) -> Pair {
+        Pair {
+            sheet: self.sheets[random.below(self.sheets.len())].clone(),
+            log: self.logs[random.below(self.logs.len())].clone(),
+        }
+    }
+}
+
 struct Soak {
-    family_sheets: Vec<Vec<u8>>,
-    family_logs: Vec<Vec<u8>>,
+    large: Soaked,
+    boards: Soaked,
 }
 
 impl Soak {
     fn new() -> Soak {
-        let family_sheets = families::large().into_iter().flat_map(|family| family.sheets).collect();
-        Soak { family_sheets, family_logs: family_logs() }
+        let large = Soaked::new(families::large(), &families::logs());
+        Soak { large, boards: Soaked::new(families::boards(), &families::board_logs()) }
     }
 
     /// Mostly the seed's own pair; else one of the families, one with a longer log, or one with a large sheet.
     fn compare(&self, seed: u64) -> Result<Tally, Mismatch> {
         let mut random = Random::new(!seed);
         match random.below(100) {
-            0..=19 => {
-                let sheet = self.family_sheets[random.below(self.family_sheets.len())].clone();
-                let log = self.family_logs[random.below(self.family_logs.len())].clone();
-                compare(&Host, &Pair { sheet, log }, seed, 12)
-            }
+            0..=14 => compare(&Host, &self.large.pair(&mut random), seed, 12),
+            15..=19 => compare(&Host, &self.boards.pair(&mut random), seed, 12),
             20..=28 => {
                 let n = random.from_to(7, 40);
                 let sheet = sheets::random(&mut random, &sheets::SMALL);

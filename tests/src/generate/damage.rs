@@ -1,19 +1,29 @@
-//! Random damage of texts: bytes changed, lost or added, lines moved, fields replaced by other numbers, rows written over and over.
+//! Random damage of texts: bytes changed, lost or added, lines moved, fields replaced by other numbers and by those at an edge, rows written over
+//! and over.
 use crate::random::Random;
 use crate::reference::columns::spell;
 
 const BYTES: [u8; 24] = *b"0123456789  \n\n\r\t+-.a\x00\x7f\xa0\xff";
-const NUMBERS: [u32; 22] = [0, 1, 2, 3, 4, 5, 6, 7, 8, 9, 10, 11, 12, 13, 19, 21, 31, 32, 98, 99, 176, 177];
+const NUMBERS: [u32; 25] = [0, 1, 2, 3, 4, 5, 6, 7, 8, 9, 10, 11, 12, 13, 19, 21, 31, 32, 33, 63, 64, 98, 99, 176, 177];
 const LARGE_NUMBERS: [u32; 11] = [255, 256, 258, 999, 1000, 4000, 4001, 65_536, 99_999, 4_294_967_294, 4_294_967_295];
 
 /// The widths of a text's first line and of its further lines.
 pub struct Columns {
     pub first: &'static [usize],
     pub further: &'static [usize],
+    /// Numbers at an edge of what is accepted, for fields of a further line, from this one on.
+    edges: &'static [(usize, &'static [u32])],
 }
 
-pub const SHEET: Columns = Columns { first: &[3, 3], further: &[3, 3, 3, 3, 11, 11] };
-pub const LOG: Columns = Columns { first: &[5, 11, 11], further: &[11, 3] };
+/// The edges are those of sets and of the field b.
+pub const SHEET: Columns = Columns {
+    first: &[3, 3],
+    further: &[3, 3, 3, 3, 11, 11],
+    edges: &[(4, &[0, 0]), (4, &[0, 1]), (4, &[0, u32::MAX]), (5, &[1]), (5, &[u32::MAX])],
+};
+/// The edges are those of events.
+pub const LOG: Columns =
+    Columns { first: &[5, 11, 11], further: &[11, 3], edges: &[(1, &[31]), (1, &[32]), (1, &[63]), (1, &[64])] };
 
 fn line_length(widths: &[usize]) -> usize {
     widths.iter().sum::<usize>() + 1
@@ -37,6 +47,20 @@ fn other_number(random: &mut Random, text: &mut [u8], columns: &Columns) {
     }
 }
 
+/// Puts numbers at an edge into fields of a further line.
+pub fn edge(random: &mut Random, text: &mut [u8], columns: &Columns) {
+    let (first, further) = (line_length(columns.first), line_length(columns.further));
+    if text.len() < first + further {
+        return;
+    }
+    let line = first + random.below((text.len() - first) / further) * further;
+    let (field, numbers) = random.pick(columns.edges);
+    for (field, &number) in (field..).zip(numbers) {
+        let (at, width) = (line + columns.further[..field].iter().sum::<usize>(), columns.further[field]);
+        text[at..at + width].copy_from_slice(&spell(number, width).expect("a number at an edge fits its field"));
+    }
+}
+
 fn swap_lines(random: &mut Random, text: &mut [u8], columns: &Columns) {
     let (first, further) = (line_length(columns.first), line_length(columns.further));
     if text.len() < first + further {
@@ -52,7 +76,7 @@ fn swap_lines(random: &mut Random, text: &mut [u8], columns: &Columns) {
 /// One piece of damage.
 pub fn damage(random: &mut Random, text: &mut Vec<u8>, columns: &Columns) {
     let length = text.len();
-    match random.below(12) {
+    match random.below(13) {
         0 | 1 if length > 0 => text[random.below(length)] = random.pick(&BYTES),
         2 if length > 0 => {
             text.remove(random.below(length));
@@ -61,6 +85,7 @@ pub fn damage(random: &mut Random, text: &mut Vec<u8>, columns: &Columns) {
         4 => text.truncate(random.below(length + 1)),
         5 => text.push(random.pick(&BYTES)),
         6 => swap_lines(random, text, columns),
+        7 => edge(random, text, columns),
         _ => other_number(random, text, columns),
     }
 }

@@ -1,4 +1,5 @@
-//! Families written out in full: every sheet of a few shapes over a few sets and limits, and every log of up to three lines.
+//! Families written out in full: every sheet of a few shapes over a few sets and limits, and every log of up to three lines. Those of the newer
+//! boards have sets in either half and in both.
 use crate::reference::blunder::Blunder;
 use crate::reference::log::{Line, Log};
 use crate::reference::sheet::{self, introduced, kind::*, Row, CLOSE, START};
@@ -17,6 +18,15 @@ impl Family {
 
 /// Every log of up to three lines over events 0 and 1 and ticks 0 and 1, closing at the last tick or one later.
 pub fn logs() -> Vec<Log> {
+    logs_over([0, 1])
+}
+
+/// The same over an event of either half, which are alike but for 32.
+pub fn board_logs() -> Vec<Log> {
+    logs_over([1, 33])
+}
+
+fn logs_over(events: [u32; 2]) -> Vec<Log> {
     let mut all = Vec::new();
     let mut of_length = vec![Vec::<Line>::new()];
     for _ in 0..=3 {
@@ -26,21 +36,21 @@ pub fn logs() -> Vec<Log> {
                 all.push(Log { start: 0, close, lines: lines.clone(), blunder: Blunder::None });
             }
         }
-        of_length = of_length.iter().flat_map(|lines| longer(lines)).collect();
+        of_length = of_length.iter().flat_map(|lines| longer(lines, events)).collect();
     }
     all
 }
 
-fn longer(lines: &[Line]) -> Vec<Vec<Line>> {
+fn longer(lines: &[Line], events: [u32; 2]) -> Vec<Vec<Line>> {
     let last = lines.last().map_or(0, |line| line.tick);
-    let further = (last..=1).flat_map(|tick| [0, 1].map(|event| Line { tick, event }));
+    let further = (last..=1).flat_map(|tick| events.map(|event| Line { tick, event }));
     further.map(|line| [lines, &[line]].concat()).collect()
 }
 
 /// What rows are written with, besides points.
 struct Alphabet {
-    sets: &'static [u32],
-    sets_of_event: &'static [u32],
+    sets: &'static [u64],
+    sets_of_event: &'static [u64],
     limits: &'static [(u32, u32)],
 }
 
@@ -48,13 +58,19 @@ struct Alphabet {
 const FEW: Alphabet = Alphabet { sets: &[1], sets_of_event: &[0, 1], limits: &[(1, 1)] };
 const MORE: Alphabet = Alphabet { sets: &[1, 2, 3], sets_of_event: &[0, 1, 2], limits: &[(0, 0), (0, 1), (1, 2)] };
 
+const LOWER: u64 = 1 << 1;
+const UPPER: u64 = 1 << 33;
+/// Sets of events 1 and 33: one of either half, and both.
+const HALVES: Alphabet =
+    Alphabet { sets: &[LOWER, UPPER, LOWER | UPPER], sets_of_event: &[0, LOWER, UPPER, LOWER | UPPER], limits: &[(1, 1)] };
+
 fn pairs(points: &[u32]) -> Vec<(u32, u32)> {
     let all = points.iter().flat_map(|&p| points.iter().map(move |&q| (p, q)));
     all.filter(|(p, q)| p != q).collect()
 }
 
-fn point(p: u32, set: u32) -> Row {
-    Row::new(0, POINT, p, 0, set, 0)
+fn point(p: u32, set: u64) -> Row {
+    Row::of_set(0, POINT, p, 0, set)
 }
 
 impl Alphabet {
@@ -65,12 +81,12 @@ impl Alphabet {
             rows.extend([BEFORE, APART, SAME].map(|kind| Row::new(section, kind, p, q, 0, 0)));
         }
         for (p, q) in pairs(&[ordinary, &[START, CLOSE]].concat()) {
-            rows.extend(self.sets.iter().map(|&set| Row::new(section, FREE, p, q, set, 0)));
+            rows.extend(self.sets.iter().map(|&set| Row::of_set(section, FREE, p, q, set)));
             rows.extend(self.limits.iter().map(|&(a, b)| Row::new(section, WITHIN, p, q, a, b)));
             rows.extend(self.limits.iter().map(|&(a, b)| Row::new(section, OUTSIDE, p, q, a, b)));
         }
         for &p in ordinary {
-            rows.extend(self.sets_of_event.iter().map(|&set| Row::new(section, EVENT, p, 0, set, 0)));
+            rows.extend(self.sets_of_event.iter().map(|&set| Row::of_set(section, EVENT, p, 0, set)));
         }
         rows
     }
@@ -79,8 +95,8 @@ impl Alphabet {
     fn introducing_rows(&self, section: u32, p: u32, ordinary: &[u32]) -> Vec<Row> {
         let mut rows = Vec::new();
         for &set in self.sets {
-            rows.extend(ordinary.iter().chain(&[START]).map(|&q| Row::new(section, NEXT, p, q, set, 0)));
-            rows.extend(ordinary.iter().chain(&[CLOSE]).map(|&q| Row::new(section, LAST, p, q, set, 0)));
+            rows.extend(ordinary.iter().chain(&[START]).map(|&q| Row::of_set(section, NEXT, p, q, set)));
+            rows.extend(ordinary.iter().chain(&[CLOSE]).map(|&q| Row::of_set(section, LAST, p, q, set)));
         }
         for (q, a) in pairs(ordinary) {
             rows.extend([EARLIER, LATER].map(|kind| Row::new(section, kind, p, q, a, 0)));
@@ -135,6 +151,29 @@ pub fn small() -> Vec<Family> {
         Family::new("an antecedent with a demand and a consequent of one row", 1, &FEW.one_more(&[demand, in_order].concat(), 1)),
         Family::new("two consequents, one empty", 2, &[one.clone(), FEW.one_more(&bare, 2)].concat()),
         Family::new("two consequents of one row", 2, &FEW.one_more(&one, 2)),
+    ]
+}
+
+/// The sheets whose last row is as wanted.
+fn ending(sheets: Vec<Vec<Row>>, wanted: impl Fn(&Row) -> bool) -> Vec<Vec<Row>> {
+    sheets.into_iter().filter(|rows| rows.last().is_some_and(&wanted)).collect()
+}
+
+/// Document 02, A1: the families of the newer boards, for `board_logs`, compared whole each time.
+pub fn boards() -> Vec<Family> {
+    let none = vec![vec![]];
+    let one_row = HALVES.one_more(&none, 0);
+    let points: Vec<Vec<Row>> = HALVES.sets.iter().map(|&set| vec![point(1, set)]).collect();
+    let one = HALVES.one_more(&[none, points].concat(), 1);
+    let of_upper = HALVES.one_more(&[vec![point(1, UPPER)]], 1);
+    let introduced = ending(of_upper.clone(), Row::introduces);
+    let spoken_of = ending(HALVES.one_more(&introduced, 1), |row| [FREE, EVENT].contains(&row.kind));
+    let two = HALVES.one_more(&ending(of_upper, |row| row.set() == UPPER), 2);
+    vec![
+        Family::new("boards: antecedents of up to two rows", 0, &[one_row.clone(), HALVES.one_more(&one_row, 0)].concat()),
+        Family::new("boards: a consequent of one row", 1, &one),
+        Family::new("boards: a consequent of a point and a set", 1, &spoken_of),
+        Family::new("boards: two consequents of one row", 2, &ending(two, |row| [NEXT, LAST, FREE, EVENT].contains(&row.kind))),
     ]
 }
 

@@ -3,8 +3,8 @@ use crate::random::Random;
 use crate::reference::blunder::Blunder;
 use crate::reference::log::{Line, Log};
 
-/// The events that random logs and sets have in common: mostly three, now and then the first or the last there is.
-pub const EVENTS: [u32; 11] = [1, 1, 1, 2, 2, 2, 3, 3, 3, 0, 31];
+/// The events that random logs and sets have in common: mostly three, two of them 32 apart, now and then the first or the last of either half.
+pub const EVENTS: [u32; 13] = [1, 1, 1, 2, 2, 2, 33, 33, 33, 0, 31, 32, 63];
 
 /// Lines of (tick, event) that start at 0 and close at the last tick, as in document 01's examples.
 pub fn log_of(lines: &[(u32, u32)]) -> Log {

@@ -4,7 +4,7 @@ use crate::random::Random;
 use crate::reference::blunder::Blunder;
 use crate::reference::log::Log;
 use crate::reference::operations::{verdict, Verdict};
-use crate::reference::sheet::{self, Sheet};
+use crate::reference::sheet::{self, kind::*, Row, Sheet};
 use crate::reference::weeded;
 
 const MOST_TRIES: usize = 40;
@@ -46,20 +46,31 @@ fn sheet_for(random: &mut Random, shape: &sheets::Shape, wanted: Wanted, log: &L
     text
 }
 
-/// Mostly small and accepted, some larger, some with a long section, some damaged.
-pub fn pair_of(seed: u64) -> Pair {
-    let mut random = Random::new(seed);
+/// An accepted sheet, mostly small, and a log.
+fn accepted(random: &mut Random) -> (Vec<u8>, Log) {
     let (shape, most_lines) = match random.below(10) {
         0..=5 => (&sheets::SMALL, 3),
         6..=8 => (&sheets::MIDDLE, 5),
         _ => (&sheets::LARGE, 6),
     };
-    let wanted = any_wanted(&mut random);
-    let log = logs::random(&mut random, most_lines);
-    let mut sheet = sheet_for(&mut random, shape, wanted, &log);
+    let wanted = any_wanted(random);
+    let log = logs::random(random, most_lines);
+    (sheet_for(random, shape, wanted, &log), log)
+}
+
+/// Mostly small and accepted, some larger, some with a long section, some at an edge, some damaged.
+pub fn pair_of(seed: u64) -> Pair {
+    let mut random = Random::new(seed);
+    let (mut sheet, log) = accepted(&mut random);
     let mut log = log.text();
     if random.one_in(40) {
         damage::repeat_row(&mut random, &mut sheet);
+    }
+    if random.one_in(12) {
+        damage::edge(&mut random, &mut sheet, &damage::SHEET);
+    }
+    if random.one_in(12) {
+        damage::edge(&mut random, &mut log, &damage::LOG);
     }
     if random.one_in(6) {
         damaged(&mut random, &mut sheet, &damage::SHEET);
@@ -68,6 +79,19 @@ pub fn pair_of(seed: u64) -> Pair {
         damaged(&mut random, &mut log, &damage::LOG);
     }
     Pair { sheet, log }
+}
+
+/// Document 02, A1: an accepted sheet and a log of an older board, with events and sets of the lower half alone.
+pub fn older_pair_of(seed: u64) -> Pair {
+    let mut random = Random::new(seed);
+    let (text, mut log) = accepted(&mut random);
+    let Sheet { k, rows, .. } = sheet::read(&text, Blunder::None).expect("a random sheet is accepted");
+    let older = |row: &Row| match row.kind {
+        POINT | NEXT | LAST | FREE | EVENT => Row { a: row.a | row.b, b: 0, ..*row },
+        _ => *row,
+    };
+    log.lines.iter_mut().for_each(|line| line.event %= 32);
+    Pair { sheet: sheet::text(k, &rows.iter().map(older).collect::<Vec<_>>()), log: log.text() }
 }
 
 /// An accepted sheet that mostly has far more than 4,096 antiscenarios, and a short log: rows at random, which a log seldom meets, or the rows of

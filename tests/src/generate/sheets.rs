@@ -105,18 +105,23 @@ pub fn largest() -> Vec<u8> {
     sheet::text(6, &rows)
 }
 
-fn bit(event: u32) -> u32 {
+fn bit(event: u32) -> u64 {
     1 << event
 }
 
-/// A set that is not empty: one event, two, all but one, all, or any.
-fn set(random: &mut Random) -> u32 {
-    match random.below(10) {
+/// All events of one half.
+const HALVES: [u64; 2] = [u32::MAX as u64, (u32::MAX as u64) << 32];
+
+/// A set that is not empty: one event, two, all but one, all, all of one half, any of one half, or any.
+fn set(random: &mut Random) -> u64 {
+    match random.below(12) {
         0..=3 => bit(random.pick(&EVENTS)),
         4..=6 => bit(random.pick(&EVENTS)) | bit(random.pick(&EVENTS)),
         7 => !bit(random.pick(&EVENTS)),
-        8 => u32::MAX,
-        _ => random.from_to(1, u32::MAX),
+        8 => u64::MAX,
+        9 => random.pick(&HALVES),
+        10 => u64::from(random.from_to(1, u32::MAX)) << random.pick(&[0, 32]),
+        _ => random.next().max(1),
     }
 }
 
@@ -161,10 +166,10 @@ fn demanding_row(random: &mut Random, section: u32, ordinary: &[u32]) -> Row {
             let (p, q) = two_of(random, ordinary);
             Row::new(section, possible, p, q, 0, 0)
         }
-        FREE => Row::new(section, FREE, any_two.0, any_two.1, set(random), 0),
+        FREE => Row::of_set(section, FREE, any_two.0, any_two.1, set(random)),
         EVENT => {
             let any_set = if random.one_in(5) { 0 } else { set(random) };
-            Row::new(section, EVENT, random.pick(ordinary), 0, any_set, 0)
+            Row::of_set(section, EVENT, random.pick(ordinary), 0, any_set)
         }
         _ => {
             let (a, b) = limits(random);
@@ -183,7 +188,7 @@ fn introducing_row(random: &mut Random, section: u32, p: u32, ordinary: &[u32]) 
     // NEXT may use the start and LAST the close; the other end of each is refused.
     let (kind, end) = if wanted % 2 == 0 { (NEXT, START) } else { (LAST, CLOSE) };
     let q = if ordinary.is_empty() || random.one_in(4) { end } else { random.pick(ordinary) };
-    Row::new(section, kind, p, q, set(random), 0)
+    Row::of_set(section, kind, p, q, set(random))
 }
 
 fn antecedent(random: &mut Random, shape: &Shape) -> Vec<Row> {
@@ -191,7 +196,7 @@ fn antecedent(random: &mut Random, shape: &Shape) -> Vec<Row> {
     let points = if random.one_in(12) { 0 } else { random.from_to(1, shape.antecedent_points) };
     let mut known: Vec<u32> = Vec::new();
     for p in 1..=points {
-        rows.push(Row::new(0, POINT, p, 0, set(random), 0));
+        rows.push(Row::of_set(0, POINT, p, 0, set(random)));
         known.push(p);
         if random.one_in(3) && shape.antecedent_rows > 0 {
             rows.push(demanding_row(random, 0, &known));
@@ -276,7 +281,7 @@ pub fn widened(random: &mut Random, k: u32, rows: &[Row]) -> (u32, Vec<Row>) {
         for _ in 0..MOST_CONSEQUENT_ROWS {
             let (p, q) = two_of(random, &points);
             let (kind, set) = if random.one_in(2) { (BEFORE, 0) } else { (FREE, set(random)) };
-            widened.push(Row::new(section, kind, p, q, set, 0));
+            widened.push(Row::of_set(section, kind, p, q, set));
         }
     }
     (6, widened)

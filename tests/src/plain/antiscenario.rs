@@ -81,7 +81,7 @@ impl Antiscenario {
             8 => self.push(as_kind(7)),
             10 => self.push(as_kind(11)),
             11 => self.push(as_kind(10)),
-            12 => self.push(Row { a: !row.a, ..row }),
+            12 => self.push(Row { a: !row.a, b: !row.b, ..row }),
             _ => self.push_between(row, second),
         }
     }
@@ -89,7 +89,7 @@ impl Antiscenario {
     fn push_between(&mut self, row: Row, second: bool) {
         let r = 10 * row.section + 9;
         let before = |p, q| Row { section: row.section, kind: 6, p, q, a: 0, b: 0 };
-        self.push(Row { section: row.section, kind: 1, p: r, q: 0, a: row.a, b: 0 });
+        self.push(Row { section: row.section, kind: 1, p: r, q: 0, a: row.a, b: row.b });
         let (low, high) = if second { (row.q, row.p) } else { (row.p, row.q) };
         match (is_end(low), is_end(high)) {
             (true, true) => {}

@@ -10,7 +10,7 @@ const LINE: usize = 15;
 pub struct Log {
     pub n: u32,
     pub ticks: [u32; MOST_LINES + 2],
-    pub events: [u32; MOST_LINES + 2],
+    pub events: [u64; MOST_LINES + 2],
 }
 
 fn first_line(text: &[u8]) -> Option<(u32, u32, u32)> {
@@ -45,7 +45,7 @@ impl Log {
         for (index, bytes) in text[FIRST_LINE..].chunks_exact(LINE).enumerate() {
             let refused = |refusal| (refusal, FIRST_LINE + LINE * index, LINE);
             let (tick, event) = line(bytes).ok_or(refused(24))?;
-            if event > 31 {
+            if event > 63 {
                 return Err(refused(25));
             }
             if tick < before {
@@ -63,24 +63,24 @@ impl Log {
     }
 
     #[inline]
-    pub fn event_in(&self, position: u32, set: u32) -> bool {
+    pub fn event_in(&self, position: u32, set: u64) -> bool {
         self.events[position as usize] & set != 0
     }
 
     #[inline]
-    pub fn free(&self, x: u32, y: u32, set: u32) -> bool {
+    pub fn free(&self, x: u32, y: u32, set: u64) -> bool {
         let (low, high) = (x.min(y) as usize, x.max(y) as usize);
         low + 1 >= high || self.events[low + 1..high].iter().all(|event| event & set == 0)
     }
 
     /// The first position after one with an event of the set.
     #[inline]
-    pub fn next(&self, after: u32, set: u32) -> Option<u32> {
+    pub fn next(&self, after: u32, set: u64) -> Option<u32> {
         self.next_up_to(after, self.n, set)
     }
 
     #[inline]
-    pub fn next_up_to(&self, after: u32, last: u32, set: u32) -> Option<u32> {
+    pub fn next_up_to(&self, after: u32, last: u32, set: u64) -> Option<u32> {
         if after >= last {
             return None;
         }
@@ -91,7 +91,7 @@ impl Log {
 
     /// The last position before one with an event of the set.
     #[inline]
-    pub fn last(&self, before: u32, set: u32) -> Option<u32> {
+    pub fn last(&self, before: u32, set: u64) -> Option<u32> {
         if before == 0 {
             return None;
         }

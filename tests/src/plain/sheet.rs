@@ -21,6 +21,11 @@ pub struct Row {
 
 impl Row {
     #[inline]
+    pub fn set(&self) -> u64 {
+        u64::from(self.b) << 32 | u64::from(self.a)
+    }
+
+    #[inline]
     pub fn write(&self, line: &mut [u8]) {
         write::<3>(line, self.section.into());
         write::<3>(&mut line[3..], self.kind.into());
@@ -159,12 +164,12 @@ fn kind_fits(section: u32, kind: u32) -> bool {
 #[inline]
 fn fields_fit(kind: u32, q: u32, a: u32, b: u32) -> bool {
     match kind {
-        1 => q == 0 && a != 0 && b == 0,
-        2 | 3 | 9 => a != 0 && b == 0,
+        1 => q == 0 && a | b != 0,
+        2 | 3 | 9 => a | b != 0,
         4 | 5 => b == 0,
-        6..=8 => a == 0 && b == 0,
+        6..=8 => a | b == 0,
         10 | 11 => a <= b,
-        _ => q == 0 && b == 0,
+        _ => q == 0,
     }
 }
 

@@ -1,7 +1,10 @@
-//! Document 01: denials with what they bring, and antiscenarios by number.
+//! Document 01: denials with what they bring, and antiscenarios by number; document 02, A1: with both halves of a set.
 use super::blunder::Blunder;
 use super::rows::points;
 use super::sheet::{is_end, kind::*, Row, Sheet, CLOSE, START};
+
+/// The set of all events has it in both halves.
+const TOP: u32 = 4_294_967_295;
 
 /// Document 01: a denial; the introducing rows that it brings, then its own.
 pub type Denial = Vec<Row>;
@@ -44,7 +47,7 @@ fn brought_for(index: usize, section: &[Row], blunder: Blunder) -> Vec<Row> {
 fn free_denials(row: &Row) -> Vec<Vec<Row>> {
     let i = row.section;
     let r = 10 * i + 9;
-    let point = Row::new(i, POINT, r, 0, row.a, 0);
+    let point = Row::new(i, POINT, r, 0, row.a, row.b);
     let before = |x, y| Row::new(i, BEFORE, x, y, 0, 0);
     let (p, q) = (row.p, row.q);
     if !is_end(p) && !is_end(q) {
@@ -62,8 +65,9 @@ fn denying_rows(row: &Row, blunder: Blunder) -> Vec<Vec<Row>> {
     let i = row.section;
     let instead = |kind| vec![vec![Row { kind, ..*row }]];
     match row.kind {
-        NEXT => vec![vec![Row::new(i, FREE, row.q, CLOSE, row.a, 0)]],
-        LAST => vec![vec![Row::new(i, FREE, START, row.q, row.a, 0)]],
+        NEXT if blunder == Blunder::UpperHalfLost => vec![vec![Row::new(i, FREE, row.q, CLOSE, row.a, 0)]],
+        NEXT => vec![vec![Row::new(i, FREE, row.q, CLOSE, row.a, row.b)]],
+        LAST => vec![vec![Row::new(i, FREE, START, row.q, row.a, row.b)]],
         EARLIER | LATER => vec![],
         BEFORE if blunder == Blunder::ReverseOnly => vec![vec![Row::new(i, BEFORE, row.q, row.p, 0, 0)]],
         BEFORE => vec![vec![Row::new(i, BEFORE, row.q, row.p, 0, 0)], vec![Row::new(i, SAME, row.p, row.q, 0, 0)]],
@@ -71,7 +75,10 @@ fn denying_rows(row: &Row, blunder: Blunder) -> Vec<Vec<Row>> {
         SAME => instead(APART),
         WITHIN => instead(OUTSIDE),
         OUTSIDE => instead(WITHIN),
-        EVENT => vec![vec![Row { a: 4_294_967_295 - row.a, ..*row }]],
+        EVENT if [Blunder::EventDeniedBelow32, Blunder::BeforeA1].contains(&blunder) => {
+            vec![vec![Row { a: TOP - row.a, ..*row }]]
+        }
+        EVENT => vec![vec![Row { a: TOP - row.a, b: TOP - row.b, ..*row }]],
         FREE => free_denials(row),
         other => panic!("kind {other} in an accepted consequent"),
     }

@@ -19,4 +19,16 @@ pub enum Blunder {
     CountIn32Bits,
     /// A4: m in 32 bits, so that 4,294,967,297 is 1.
     NumberIn32Bits,
+    /// A1: denying EVENT in the lower half of its set alone.
+    EventDeniedBelow32,
+    /// A1: taking a set with a = 0 and b > 0 as empty.
+    UpperHalfEmpty,
+    /// A1: accepting event 64.
+    Event64,
+    /// A1: losing the upper half of the set in the denial of NEXT.
+    UpperHalfLost,
+    /// A1: wanting b of EVENT to be 0, as before.
+    EventWithoutUpperHalf,
+    /// No blunder: document 01 as it was before A1, with events up to 31 and sets of a alone.
+    BeforeA1,
 }

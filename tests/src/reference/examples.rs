@@ -76,9 +76,13 @@ fn largest_counts() {
 
 #[test]
 fn logs_refused_and_accepted() {
-    let lines = vec![Line { tick: 7, event: 32 }];
-    let event = Log { start: 0, close: 7, lines, blunder: Blunder::None };
-    assert_eq!(log::read(&event.text(), Blunder::None).unwrap_err().refusal, Refusal::Event);
+    let with_event = |event| Log { start: 0, close: 7, lines: vec![Line { tick: 7, event }], blunder: Blunder::None }.text();
+    // Document 02, A1: 32 was refused.
+    for event in [0, 31, 32, 63] {
+        assert!(log::read(&with_event(event), Blunder::None).is_ok());
+    }
+    assert_eq!(log::read(&with_event(64), Blunder::None).unwrap_err().refusal, Refusal::Event);
+    assert_eq!(log::read(&with_event(32), Blunder::BeforeA1).unwrap_err().refusal, Refusal::Event);
     assert_eq!(log::read(&log_of(&vec![(1, 1); 4001]).text(), Blunder::None).unwrap_err().refusal, Refusal::LineCount);
     assert!(log::read(&log_of(&vec![(1, 1); 4000]).text(), Blunder::None).is_ok());
 }

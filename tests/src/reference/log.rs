@@ -1,10 +1,10 @@
-//! Document 01: a log, and its reading with refusals 21 to 27.
+//! Document 01: a log, and its reading with refusals 21 to 27; document 02, A1: with events up to 63.
 use super::blunder::Blunder;
 use super::columns::{read_line, spell_line};
 use super::refusal::{Fault, Part, Refusal};
 
 pub const MOST_LINES: u32 = 4000;
-pub const LAST_EVENT: u32 = 31;
+pub const LAST_EVENT: u32 = 63;
 pub const FIRST_LINE: usize = 28;
 pub const LINE: usize = 15;
 const FIRST_WIDTHS: [usize; 3] = [5, 11, 11];
@@ -39,9 +39,10 @@ impl Log {
     }
 
     /// The event at a position is in the set; start and close have no event.
-    pub fn event_in(&self, position: u32, set: u32) -> bool {
+    pub fn event_in(&self, position: u32, set: u64) -> bool {
+        // No set has event 64, which a blunder lets in.
         let Some(index) = position.checked_sub(1) else { return false };
-        self.lines.get(index as usize).is_some_and(|line| set >> line.event & 1 == 1)
+        self.lines.get(index as usize).is_some_and(|line| line.event <= LAST_EVENT && set >> line.event & 1 == 1)
     }
 
     pub fn text(&self) -> Vec<u8> {
@@ -74,7 +75,7 @@ pub fn read(text: &[u8], blunder: Blunder) -> Result<Log, Fault> {
     let mut log = Log { start, close, lines: Vec::new(), blunder };
     for (index, line) in text[FIRST_LINE..].chunks(LINE).enumerate() {
         let before = log.tick(index as u32);
-        let line = read_one(line, before).map_err(|refusal| line_fault(refusal, FIRST_LINE + LINE * index))?;
+        let line = read_one(line, before, blunder).map_err(|refusal| line_fault(refusal, FIRST_LINE + LINE * index))?;
         log.lines.push(line);
     }
     // tick(n) is the last line's tick, or the start's without lines.
@@ -84,10 +85,18 @@ pub fn read(text: &[u8], blunder: Blunder) -> Result<Log, Fault> {
     Ok(log)
 }
 
-fn read_one(line: &[u8], tick_before: u32) -> Result<Line, Refusal> {
+fn last_event(blunder: Blunder) -> u32 {
+    match blunder {
+        Blunder::BeforeA1 => 31,
+        Blunder::Event64 => 64,
+        _ => LAST_EVENT,
+    }
+}
+
+fn read_one(line: &[u8], tick_before: u32, blunder: Blunder) -> Result<Line, Refusal> {
     let Some(fields) = read_line(line, &LINE_WIDTHS) else { return Err(Refusal::LineMalformed) };
     let (tick, event) = (fields[0], fields[1]);
-    if event > LAST_EVENT {
+    if event > last_event(blunder) {
         return Err(Refusal::Event);
     }
     if tick < tick_before {

@@ -1,4 +1,5 @@
-//! Document 01: a sheet, and its reading with refusals 1 to 10; document 02, A4: however many antiscenarios it has.
+//! Document 01: a sheet, and its reading with refusals 1 to 10; document 02, A1: with sets in two halves, and A4: however many antiscenarios it
+//! has.
 use super::antiscenario::{self, Denial};
 use super::blunder::Blunder;
 use super::columns::{read_line, spell_line};
@@ -49,6 +50,16 @@ pub struct Row {
 impl Row {
     pub fn new(section: u32, kind: u32, p: u32, q: u32, a: u32, b: u32) -> Row {
         Row { section, kind, p, q, a, b }
+    }
+
+    /// A row whose set is given in one number.
+    pub fn of_set(section: u32, kind: u32, p: u32, q: u32, set: u64) -> Row {
+        Row::new(section, kind, p, q, (set % (1 << 32)) as u32, (set / (1 << 32)) as u32)
+    }
+
+    /// Document 02, A1: the set of a row of kinds 1, 2, 3, 9 and 12.
+    pub fn set(&self) -> u64 {
+        u64::from(self.a) + (1 << 32) * u64::from(self.b)
     }
 
     pub fn introduces(&self) -> bool {
@@ -140,15 +151,29 @@ fn q_fits(row: &Row, before: &[Row]) -> bool {
     }
 }
 
+/// A set is empty when both halves are 0.
+fn has_event(row: &Row, blunder: Blunder) -> bool {
+    match blunder {
+        Blunder::UpperHalfEmpty => row.a != 0,
+        Blunder::BeforeA1 => row.a != 0 && row.b == 0,
+        _ => row.a != 0 || row.b != 0,
+    }
+}
+
+/// The set of EVENT may be empty.
+fn is_set_of_event(row: &Row, blunder: Blunder) -> bool {
+    row.b == 0 || ![Blunder::EventWithoutUpperHalf, Blunder::BeforeA1].contains(&blunder)
+}
+
 /// Unused fields are 0, sets are not empty, limits are in order.
-fn fields_fit(row: &Row) -> bool {
+fn fields_fit(row: &Row, blunder: Blunder) -> bool {
     match row.kind {
-        POINT => row.q == 0 && row.a != 0 && row.b == 0,
-        NEXT | LAST | FREE => row.a != 0 && row.b == 0,
+        POINT => row.q == 0 && has_event(row, blunder),
+        NEXT | LAST | FREE => has_event(row, blunder),
         EARLIER | LATER => row.b == 0,
         BEFORE | APART | SAME => row.a == 0 && row.b == 0,
         WITHIN | OUTSIDE => row.a <= row.b,
-        _ => row.q == 0 && row.b == 0,
+        _ => row.q == 0 && is_set_of_event(row, blunder),
     }
 }
 
@@ -158,7 +183,7 @@ fn section_fits(row: &Row, before: &[Row]) -> bool {
 }
 
 /// Refusals 4 to 10 for the row that comes after these rows.
-fn read_row(line: &[u8], k: u32, before: &[Row]) -> Result<Row, Refusal> {
+fn read_row(line: &[u8], k: u32, before: &[Row], blunder: Blunder) -> Result<Row, Refusal> {
     let Some(f) = read_line(line, &ROW_WIDTHS) else { return Err(Refusal::RowMalformed) };
     let row = Row::new(f[0], f[1], f[2], f[3], f[4], f[5]);
     let preceding = before.last().map_or(0, |row| row.section);
@@ -167,7 +192,7 @@ fn read_row(line: &[u8], k: u32, before: &[Row]) -> Result<Row, Refusal> {
         (kind_fits(&row), Refusal::Kind),
         (p_fits(&row, before), Refusal::PointP),
         (q_fits(&row, before), Refusal::PointQ),
-        (fields_fit(&row), Refusal::Fields),
+        (fields_fit(&row, blunder), Refusal::Fields),
         (section_fits(&row, before), Refusal::SectionTooLong),
     ];
     match tries.iter().find(|(fits, _)| !fits) {
@@ -193,7 +218,7 @@ pub fn read(text: &[u8], blunder: Blunder) -> Result<Sheet, Fault> {
     let mut rows = Vec::new();
     for (index, line) in text[FIRST_LINE..].chunks(ROW).enumerate() {
         let part = Part { of_log: false, offset: FIRST_LINE + ROW * index, length: ROW };
-        rows.push(read_row(line, k, &rows).map_err(|refusal| Fault { refusal, part })?);
+        rows.push(read_row(line, k, &rows, blunder).map_err(|refusal| Fault { refusal, part })?);
     }
     let mut sheet = Sheet { k, rows, denials: Vec::new(), count: 0, blunder };
     sheet.denials = (1..=k).map(|section| antiscenario::denials(&sheet, section)).collect();

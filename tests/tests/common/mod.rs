@@ -1,5 +1,6 @@
 //! What the tests share: a panic for a mismatch, and the count of comparisons told past the harness.
 #![allow(dead_code)]
+pub mod answers;
 pub mod program;
 pub mod words;
 

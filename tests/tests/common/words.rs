@@ -7,32 +7,43 @@ use satskhubo_tests::reference::sheet::{kind::*, Row, Sheet, CLOSE, START};
 pub const KINDS: [&str; 13] =
     ["", "POINT", "NEXT", "LAST", "EARLIER", "LATER", "BEFORE", "APART", "SAME", "FREE", "WITHIN", "OUTSIDE", "EVENT"];
 
+/// Three or more in a row are said by the first and the last.
 fn listed(events: &[u32]) -> String {
-    events.iter().map(u32::to_string).collect::<Vec<_>>().join(", ")
+    let mut parts: Vec<String> = Vec::new();
+    let mut rest = events;
+    while let Some(&first) = rest.first() {
+        let row = rest.iter().zip(first..).take_while(|(event, due)| **event == *due).count();
+        match row {
+            0..=2 => parts.push(first.to_string()),
+            _ => parts.push(format!("{first} to {}", rest[row - 1])),
+        }
+        rest = &rest[if row < 3 { 1 } else { row }..];
+    }
+    parts.join(", ")
 }
 
 /// The events of a set and the others.
-fn parted(set: u32) -> (Vec<u32>, Vec<u32>) {
-    (0..32).partition(|event| set & (1 << event) != 0)
+fn parted(set: u64) -> (Vec<u32>, Vec<u32>) {
+    (0..64).partition(|event| set & (1 << event) != 0)
 }
 
-pub fn some_of(set: u32) -> String {
+pub fn some_of(set: u64) -> String {
     let (some, others) = parted(set);
     match (some.len(), others.len()) {
         (0, _) => "no event".into(),
         (1, _) => format!("event {}", listed(&some)),
-        (32, _) => "any event".into(),
-        (17.., _) => format!("any event but {}", listed(&others)),
+        (64, _) => "any event".into(),
+        (33.., _) => format!("any event but {}", listed(&others)),
         _ => format!("one of the events {}", listed(&some)),
     }
 }
 
-fn none_of(set: u32) -> String {
+fn none_of(set: u64) -> String {
     let (some, others) = parted(set);
     match some.len() {
         1 => format!("event {} does not occur", listed(&some)),
-        32 => "no event occurs".into(),
-        17.. => format!("no event but {} occurs", listed(&others)),
+        64 => "no event occurs".into(),
+        33.. => format!("no event but {} occurs", listed(&others)),
         _ => format!("none of the events {} occurs", listed(&some)),
     }
 }
@@ -53,15 +64,15 @@ pub fn line(position: u32) -> String {
 pub fn asked(row: &Row) -> String {
     let (p, q, a, b) = (point(row.p), point(row.q), row.a, row.b);
     match row.kind {
-        POINT | EVENT => format!("{p} has {}", some_of(a)),
-        NEXT => format!("{p} is the next line after {q} with {}", some_of(a)),
-        LAST => format!("{p} is the last line before {q} with {}", some_of(a)),
+        POINT | EVENT => format!("{p} has {}", some_of(row.set())),
+        NEXT => format!("{p} is the next line after {q} with {}", some_of(row.set())),
+        LAST => format!("{p} is the last line before {q} with {}", some_of(row.set())),
         EARLIER => format!("{p} is the earlier of {q} and {}", point(a)),
         LATER => format!("{p} is the later of {q} and {}", point(a)),
         BEFORE => format!("{p} stands before {q}"),
         APART => format!("{p} and {q} are different lines"),
         SAME => format!("{p} and {q} are the same line"),
-        FREE => format!("{} between {p} and {q}", none_of(a)),
+        FREE => format!("{} between {p} and {q}", none_of(row.set())),
         WITHIN => format!("the ticks of {p} and {q} differ by {a} to {b}"),
         OUTSIDE => format!("the ticks of {p} and {q} do not differ by {a} to {b}"),
         other => panic!("kind {other}"),
@@ -96,7 +107,7 @@ pub fn found(sheet: &Sheet, log: &Log, placement: &[u32], fault: usize) -> Strin
         LAST => format!("before {} there is no such line", point(row.q)),
         EVENT => format!("{} has event {}", line(p), event(p)),
         FREE => {
-            let between = (p.min(q) + 1..p.max(q)).find(|position| log.event_in(*position, row.a)).expect("a line between");
+            let between = (p.min(q) + 1..p.max(q)).find(|position| log.event_in(*position, row.set())).expect("a line between");
             format!("{}, tick {}, has event {}", line(between), log.tick(between), event(between))
         }
         WITHIN | OUTSIDE => {

@@ -97,7 +97,7 @@ fn put_log_fault(text: &mut Vec<u8>, refusal: u32, line: usize) {
         22 => text[..5].copy_from_slice(b" 4001"),
         23 => text.push(b'\n'),
         24 => text[line + 14] = b' ',
-        25 => text[line + 11..line + 14].copy_from_slice(b" 32"),
+        25 => text[line + 11..line + 14].copy_from_slice(b" 64"),
         26 => text[line..line + 11].copy_from_slice(b"          1"),
         _ => text[16..27].copy_from_slice(b"          7"),
     }

@@ -60,7 +60,7 @@ fn log_first_lines() -> Vec<Case> {
 fn log_lines() -> Vec<Case> {
     let log = log_of(&[(10, 1), (20, 2), (30, 3)]).text();
     let second = LOG_FIRST + LINE;
-    let damages: [(usize, &[u8], u32); 22] = [
+    let damages: [(usize, &[u8], u32); 25] = [
         (0, b" 4294967296", 24),
         (0, b"99999999999", 24),
         (0, b"00000000020", 24),
@@ -73,13 +73,16 @@ fn log_lines() -> Vec<Case> {
         (11, b"2  ", 24),
         (11, b" 2\r", 24),
         (11, b"032", 24),
+        (11, b"064", 24),
         (14, b" ", 24),
         (14, b"\r", 24),
         (0, b"          9999x", 24),
-        (11, b" 32", 25),
+        (11, b" 64", 25),
+        (11, b" 99", 25),
         (11, b"999", 25),
+        (11, b"255", 25),
         (11, b"256", 25),
-        (0, b"          1 32", 25),
+        (0, b"          1 64", 25),
         (0, b"          9", 26),
         (0, b"          0", 26),
         (0, b" 4294967295", 26),
@@ -95,8 +98,9 @@ fn log_lines() -> Vec<Case> {
     cases.push(log_line("line 1 below the start", replaced(&log, 5, b"         11"), 26, 1));
     cases.push(log_line("line 1 below a large start", replaced(&log, 5, b" 4294967295"), 26, 1));
     cases.push(log_line("26 before 27", replaced(&replaced(&log, 16, b"          0"), second, b"          1"), 26, 2));
-    cases.push(log_first("event 31", replaced(&log, second + 11, b" 31"), 0));
-    cases.push(log_first("event 0", replaced(&log, second + 11, b"  0"), 0));
+    for event in [0, 31, 32, 33, 63] {
+        cases.push(log_first(&format!("event {event}"), replaced(&log, second + 11, format!("{event:3}").as_bytes()), 0));
+    }
     cases.push(log_first("equal ticks", replaced(&log, second, b"         10"), 0));
     cases.push(log_first("start at the first tick", replaced(&log, 5, b"         10"), 0));
     cases
