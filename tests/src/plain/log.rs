@@ -6,11 +6,11 @@ const MOST_LINES: usize = 4000;
 const FIRST_LINE: usize = 28;
 const LINE: usize = 15;
 
-/// Ticks by position, start and close among them; events as sets of one, none at the ends.
+/// Ticks by position, start and close among them; events by position, of which those at the ends are not looked at.
 pub struct Log {
     pub n: u32,
     pub ticks: [u32; MOST_LINES + 2],
-    pub events: [u64; MOST_LINES + 2],
+    pub events: [u8; MOST_LINES + 2],
 }
 
 fn first_line(text: &[u8]) -> Option<(u32, u32, u32)> {
@@ -27,6 +27,11 @@ fn line(text: &[u8]) -> Option<(u32, u32)> {
         return None;
     }
     Some((read::<11>(text)?, read::<3>(&text[11..])?))
+}
+
+#[inline]
+fn is_in(event: u8, set: u64) -> bool {
+    set >> event & 1 == 1
 }
 
 impl Log {
@@ -52,7 +57,7 @@ impl Log {
                 return Err(refused(26));
             }
             log.ticks[index + 1] = tick;
-            log.events[index + 1] = 1 << event;
+            log.events[index + 1] = event as u8;
             before = tick;
         }
         if close < before {
@@ -64,13 +69,13 @@ impl Log {
 
     #[inline]
     pub fn event_in(&self, position: u32, set: u64) -> bool {
-        self.events[position as usize] & set != 0
+        is_in(self.events[position as usize], set)
     }
 
     #[inline]
     pub fn free(&self, x: u32, y: u32, set: u64) -> bool {
         let (low, high) = (x.min(y) as usize, x.max(y) as usize);
-        low + 1 >= high || self.events[low + 1..high].iter().all(|event| event & set == 0)
+        low + 1 >= high || self.events[low + 1..high].iter().all(|&event| !is_in(event, set))
     }
 
     /// The first position after one with an event of the set.
@@ -85,7 +90,7 @@ impl Log {
             return None;
         }
         let from = after as usize + 1;
-        let offset = self.events[from..=last as usize].iter().position(|event| event & set != 0)?;
+        let offset = self.events[from..=last as usize].iter().position(|&event| is_in(event, set))?;
         Some((from + offset) as u32)
     }
 
@@ -95,6 +100,6 @@ impl Log {
         if before == 0 {
             return None;
         }
-        self.events[1..before as usize].iter().rposition(|event| event & set != 0).map(|index| index as u32 + 1)
+        self.events[1..before as usize].iter().rposition(|&event| is_in(event, set)).map(|index| index as u32 + 1)
     }
 }
