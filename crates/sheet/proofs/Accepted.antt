@@ -173,10 +173,14 @@ module _ (k : ℕ) (k6 : k ≤ 6) (at : Stand) (l : Line) (P : Passes k at l) (F
             none = λ e. absurd (omega (arith, after-section at l));
           }
 
--- Rows that are accepted one after another
+-- Rows that are accepted one after another, their numbers in columns
 abbrev pub Accepted : ℕ → Stand → List Line → Type 0
 Accepted k at [] = Unit {0}
 Accepted k at (l ∷ ls) = (refusal k at l ≡ 0) × (Fits l × Accepted k (after at l) ls)
+
+pub in-columns : (k : ℕ) (at : Stand) (ls : List Line) → Accepted k at ls → All Fits ls
+in-columns k at [] A = tt
+in-columns k at (l ∷ ls) A = (A .1 .0, in-columns k (after at l) ls (A .1 .1))
 
 -- a section of rows: one row more
 pub section-in : (i : ℕ) (l : Line) (ls : List Line) → l .section ≡ i → section i (l ∷ ls) ≡ rowIn l ∷ section i ls

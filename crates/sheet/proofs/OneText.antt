@@ -22,7 +22,7 @@ use Rattle.sheet.specs.declared.Stand.{Stand}
 use Rattle.sheet.specs.declared.Parsed.the-variants.{Row}
 use Rattle.sheet.specs.Row.{six, lineOf, start}
 use Rattle.sheet.specs.Reading.{headed, headOf, Taken, more, after, rowBytes, rowsFrom, rowIn, sheetOf, taken, accepted, closing, answer, sheetIn}
-use Rattle.sheet.specs.Text.{Fits, rowText, rowsText, headText, sheetText, numbersOf, textOf}
+use Rattle.sheet.specs.Text.{rowText, rowsText, headText, sheetText, numbersOf, textOf}
 use Rattle.sheet.proofs.Accepted.{Accepted}
 use Rattle.columns.proofs.Lines.{past}
 use Rattle.sheet.proofs.Texts.{row-text-length, head-text-length, sheet-text-length, row-at, row-read}
@@ -56,22 +56,21 @@ head-read k ls hk hn =
 abbrev all : List Line → Taken
 all ls = record { number = 0; row = 0; lines = ls }
 
-rows-read : (k : ℕ) (ls : List Line) (front : List ℕ) (i : ℕ) (at : Stand) → length front ≡ 7 + 35 * i → All Fits ls → Accepted k at ls
+rows-read : (k : ℕ) (ls : List Line) (front : List ℕ) (i : ℕ) (at : Stand) → length front ≡ 7 + 35 * i → Accepted k at ls
     → rowsFrom k (front ++ rowsText ls) i (length ls) at ≡ all ls
 unfolding rowsFrom rowsText
-rows-read k [] front i at h F A = refl
-rows-read k (l ∷ ls) front i at h F A =
-    let line : lineOf (rowBytes (front ++ (rowText l ++ rowsText ls)) i) ≡ Row l = ap lineOf (row-at front (rowsText ls) l i h) ∙ row-read l (F .0) in
+rows-read k [] front i at h A = refl
+rows-read k (l ∷ ls) front i at h A =
+    let line : lineOf (rowBytes (front ++ (rowText l ++ rowsText ls)) i) ≡ Row l = ap lineOf (row-at front (rowsText ls) l i h) ∙ row-read l (A .1 .0) in
     let rest : rowsFrom k (front ++ (rowText l ++ rowsText ls)) (suc i) (length ls) (after at l) ≡ all ls =
     subst (λ (t : List ℕ). rowsFrom k t (suc i) (length ls) (after at l) ≡ all ls) (append-assoc front (rowText l) (rowsText ls))
-    (rows-read k ls (front ++ rowText l) (suc i) (after at l) (omega (arith, length-append front (rowText l), row-text-length l, h)) (F .1) (A .1 .1)) in
+    (rows-read k ls (front ++ rowText l) (suc i) (after at l) (omega (arith, length-append front (rowText l), row-text-length l, h)) (A .1 .1)) in
     rw (line, A .0) (ap (more l) rest)
 
--- What k and rows must be for a sheet: the limits, the columns, and no row refused.
+-- What k and rows must be for a sheet: the limits, and no row refused.
 pub record Acceptable (k : ℕ) (ls : List Line) : Type 0 where
   pub few-consequents : k ≤ 6
   pub few-rows : length ls ≤ 176
-  pub in-columns : All Fits ls
   pub none-refused : Accepted k start ls
 
 module _ (k : ℕ) (ls : List Line) (S : Acceptable k ls) where
@@ -80,7 +79,7 @@ module _ (k : ℕ) (ls : List Line) (S : Acceptable k ls) where
 
   rows : rowsFrom k (sheetText k ls) 0 (length ls) start ≡ all ls
   unfolding sheetText
-  rows = rows-read k ls (headText k (length ls)) 0 start (head-text-length k (length ls)) (S .in-columns) (S .none-refused)
+  rows = rows-read k ls (headText k (length ls)) 0 start (head-text-length k (length ls)) (S .none-refused)
 
   text-taken : taken (sheetText k ls) ≡ all ls
   unfolding taken

@@ -31,13 +31,13 @@ use Rattle.sheet.proofs.Texts.{row-fits, text-only}
 use Rattle.sheet.proofs.Arms.{kind-low, kind-high}
 use Rattle.sheet.proofs.Points.{fields-back}
 use Rattle.sheet.proofs.Memory.{head-good, rows-full, lines-back}
-use Rattle.sheet.proofs.Accepted.{passes, after-section, Accepted, section-in, section-out, passed, sections-length, sheet-read}
+use Rattle.sheet.proofs.Accepted.{passes, after-section, Accepted, in-columns, section-in, section-out, passed, sections-length, sheet-read}
 use Rattle.sheet.proofs.Room.{antecedent-room, consequents-room, count-most}
 
--- Rows that none is refused of are accepted one after another, and fit their columns.
+-- Rows that none is refused of are accepted one after another.
 
 abbrev Fine : ℕ → Stand → Taken → Type 0
-Fine k at t = t .number ≡ 0 → (Accepted k at (t .lines) × All Fits (t .lines))
+Fine k at t = t .number ≡ 0 → Accepted k at (t .lines)
 
 module _ (k : ℕ) (at : Stand) where
   fine-if : (b : Bool) (x y : Taken) → (b ≡ true → Fine k at x) → (b ≡ false → Fine k at y) → Fine k at (cond b x y)
@@ -51,13 +51,11 @@ module _ (k : ℕ) (at : Stand) where
 module _ (k : ℕ) (s : List ℕ) where
   fine : (left i : ℕ) (at : Stand) → Fine k at (rowsFrom k s i left at)
   unfolding rowsFrom
-  fine zero i at = λ e. (tt, tt)
+  fine zero i at = λ e. tt
   fine (suc left) i at =
       fine-on k at (lineOf (rowBytes s i)) _ _ (λ e. absurd (omega arith)) (λ l q.
-      fine-if k at (eqb (refusal k at l) 0) _ _ (λ e c.
-      let F = row-fits (rowBytes s i) l q in
-      let r = fine left (suc i) (after at l) c in
-      ((eqb-true (refusal k at l) 0 e, (F, r .0)), (F, r .1)))
+      fine-if k at (eqb (refusal k at l) 0) _ _
+      (λ e c. (eqb-true (refusal k at l) 0 e, (row-fits (rowBytes s i) l q, fine left (suc i) (after at l) c)))
       (λ e c. absurd (eqb-false (refusal k at l) 0 e c)))
 
 -- The sheet's rows, section by section, are the lines in order.
@@ -180,11 +178,7 @@ module _ (s : List ℕ) (e : answer s .refusal ≡ 0) where
 
   all-accepted : Accepted k start ls
   unfolding k ls
-  all-accepted = subst (λ (t : Taken). Accepted (headOf s .k) start (t .lines)) (sym (T .is)) (fine (headOf s .k) s (headOf s .rows) 0 start none .0)
-
-  all-fit : All Fits ls
-  unfolding k ls
-  all-fit = subst (λ (t : Taken). All Fits (t .lines)) (sym (T .is)) (fine (headOf s .k) s (headOf s .rows) 0 start none .1)
+  all-accepted = subst (λ (t : Taken). Accepted (headOf s .k) start (t .lines)) (sym (T .is)) (fine (headOf s .k) s (headOf s .rows) 0 start none)
 
   all-there : length ls ≡ headOf s .rows
   unfolding k ls
@@ -243,7 +237,7 @@ pub accepted-rows : (s : List ℕ) → answer s .refusal ≡ 0 → AcceptedRows 
 unfolding k ls
 accepted-rows s e =
     subst (λ (j : ℕ). AcceptedRows j (ls s e)) (sym (ap (λ (a : Answer). a .k) (said s e)))
-    (record { few = k6 s e; passed = all-accepted s e; columns = all-fit s e })
+    (record { few = k6 s e; passed = all-accepted s e; columns = in-columns (k s e) start (ls s e) (all-accepted s e) })
 
 -- Demand 3 of every accepted sheet
 pub accepted-demand : (s : List ℕ) → answer s .refusal ≡ 0 → (g : Log) → All (λ (e : ℕ). e < event-count) (g .events)

@@ -234,8 +234,8 @@ rows-fewer i front t back e =
 
 -- valid rows are accepted one after another
 module _ (k : ℕ) (rows : List Tagged) (W : ValidSheet k rows) where
-  accepts : (ts front : List Tagged) (at : Stand) → Stands front at → rows ≡ front ++ ts → Accepted k at (map numbersOf ts) × All Fits (map numbersOf ts)
-  accepts [] front at S e = (tt, tt)
+  accepts : (ts front : List Tagged) (at : Stand) → Stands front at → rows ≡ front ++ ts → Accepted k at (map numbersOf ts)
+  accepts [] front at S e = tt
   accepts (t ∷ ts) front at S e =
       let row = W .each front t ts e in
       let all : (i : ℕ) → t .section ≡ i → length (rowsOf i front) < length (rowsOf i rows) = λ i q. rw e (rows-fewer i front t ts q) in
@@ -243,7 +243,7 @@ module _ (k : ℕ) (rows : List Tagged) (W : ValidSheet k rows) where
       let P = row-passes k (W .few-consequents) front at S t row room in
       let N = row-fits k (W .few-consequents) front at S t row in
       let rest = accepts ts (front ++ (t ∷ [])) (after at (numbersOf t)) (stands-on k (W .few-consequents) front at S t P N) (e ∙ sym (append-assoc front (t ∷ []) ts)) in
-      ((not-refused k at (numbersOf t) P, (N, rest .0)), (N, rest .1))
+      (not-refused k at (numbersOf t) P, (N, rest))
 
 -- rows that are accepted one after another are valid, each by those before it
 abbrev ValidFrom : ℕ → (front rows : List Tagged) → Type 0
@@ -251,12 +251,12 @@ ValidFrom k front [] = Unit {0}
 ValidFrom k front (t ∷ ts) = ValidRow k front t × ValidFrom k (front ++ (t ∷ [])) ts
 
 module _ (k : ℕ) (k6 : k ≤ 6) where
-  valid-from : (ts front : List Tagged) (at : Stand) → Stands front at → Accepted k at (map numbersOf ts) → All Fits (map numbersOf ts) → ValidFrom k front ts
-  valid-from [] front at S A F = tt
-  valid-from (t ∷ ts) front at S A F =
+  valid-from : (ts front : List Tagged) (at : Stand) → Stands front at → Accepted k at (map numbersOf ts) → ValidFrom k front ts
+  valid-from [] front at S A = tt
+  valid-from (t ∷ ts) front at S A =
       let P = passes k at (numbersOf t) (A .0) in (
-        row-valid k k6 front at S t P (F .0),
-        valid-from ts (front ++ (t ∷ [])) (after at (numbersOf t)) (stands-on k k6 front at S t P (F .0)) (A .1 .1) (F .1),
+        row-valid k k6 front at S t P (A .1 .0),
+        valid-from ts (front ++ (t ∷ [])) (after at (numbersOf t)) (stands-on k k6 front at S t P (A .1 .0)) (A .1 .1),
       )
 
   none-there : (b a : List Tagged) (t : Tagged) → [] ≡ b ++ (t ∷ a) → ⊥
@@ -276,12 +276,10 @@ module _ (k : ℕ) (k6 : k ≤ 6) where
 module _ (k : ℕ) (rows : List Tagged) (W : ValidSheet k rows) where
   acceptable : Acceptable k (map numbersOf rows)
   acceptable =
-      let A = accepts k rows W rows [] start stands-start refl in
       record {
         few-consequents = W .few-consequents;
         few-rows = omega (arith, length-map rows numbersOf, W .few-rows);
-        in-columns = A .1;
-        none-refused = A .0;
+        none-refused = accepts k rows W rows [] start stands-start refl;
       }
 
 -- What the text of a valid sheet is read as: k, the row count and N, and its own rows.
@@ -319,7 +317,7 @@ module _ (s : List ℕ) (e : answer s .refusal ≡ 0) where
         few-consequents = R .few;
         few-rows = omega (arith, length-map tags numbersOf, ap length back, A .size, A .short);
         each = each-of (answer s .k) (R .few) tags []
-            (valid-from (answer s .k) (R .few) tags [] start stands-start (rw back (R .passed)) (rw back (R .columns)));
+            (valid-from (answer s .k) (R .few) tags [] start stands-start (rw back (R .passed)));
         antecedent-rows = rw (read-section 0) (antecedent-room (answer s .k) (taken s .lines) (R .passed));
         consequent-rows = λ i h. rw (read-section i) (consequent-room (answer s .k) (taken s .lines) (R .passed) i h);
       }
