@@ -24,6 +24,11 @@ module _ (a b : ℕ) (h : a ≤ full-half) where
   unfolding set-of IsEvents
   set-of-events k = omega arith
 
+-- without an upper half it is what the lower one holds
+pub set-of-lower : (a b : ℕ) → a ≤ full-half → b ≡ 0 → set-of a b ≤ full-half
+unfolding set-of
+set-of-lower a b h z = omega arith
+
 -- a set of events fits two fields
 pub lower-half-fits : (s : ℕ) → lower-half s ≤ full-half
 unfolding lower-half

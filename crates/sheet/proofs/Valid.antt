@@ -296,11 +296,10 @@ valid-read k rows W =
     record { answered = e; sheet = ap₂ sheetOf (ap (λ (a : Answer). a .k) e) (R .lines) ∙ sheet-rows k rows }
 
 module _ (s : List ℕ) (e : answer s .refusal ≡ 0) where
-  tags : List Tagged
+  abbrev tags : List Tagged
   tags = map tag (taken s .lines)
 
   back : map numbersOf tags ≡ taken s .lines
-  unfolding tags
   back = lines-from-tags (taken s .lines) (accepted-sheet s e .numbers)
 
   read-sheet : sheetFrom (answer s .k) tags ≡ sheetOf (answer s .k) (taken s .lines)
@@ -309,7 +308,7 @@ module _ (s : List ℕ) (e : answer s .refusal ≡ 0) where
   read-section : (i : ℕ) → rowsOf i tags ≡ section i (taken s .lines)
   read-section i = sym (section-rows i tags) ∙ ap (section i) back
 
-  read-valid : ValidSheet (answer s .k) tags
+  pub read-valid : ValidSheet (answer s .k) tags
   read-valid =
       let A = accepted-sheet s e in
       let R = accepted-rows s e in
@@ -322,14 +321,12 @@ module _ (s : List ℕ) (e : answer s .refusal ≡ 0) where
         consequent-rows = λ i h. rw (read-section i) (consequent-room (answer s .k) (taken s .lines) (R .passed) i h);
       }
 
+  pub read-text : s ≡ rowsSpelt (answer s .k) tags
+  unfolding rowsSpelt
+  read-text = accepted-sheet s e .text ∙ ap (sheetText (answer s .k)) (sym back)
+
 pub accepted-valid : (s : List ℕ) → (answer s .refusal ≡ 0) ↔ ValidText s
-unfolding rowsSpelt
 accepted-valid s = (
-  (λ e. record {
-    k = answer s .k;
-    rows = tags s e;
-    valid = read-valid s e;
-    text = accepted-sheet s e .text ∙ ap (sheetText (answer s .k)) (sym (back s e));
-  }),
+  (λ e. record { k = answer s .k; rows = tags s e; valid = read-valid s e; text = read-text s e }),
   (λ (X : ValidText s). ap (λ (t : List ℕ). answer t .refusal) (X .text) ∙ ap (λ (a : Answer). a .refusal) (valid-read (X .k) (X .rows) (X .valid) .answered)),
 )

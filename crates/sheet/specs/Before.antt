@@ -1,4 +1,4 @@
--- Reading as it was before document 02's A4, for one statement: what was accepted gets the answers it got. What must be believed.
+-- Reading with document 01's refusal 11, as before document 02's A4 and else as now, for one statement: what was accepted gets the answers it got. What must be believed.
 -- Assumes nothing.
 use mathlib.Core.Bool.{cond}
 use mathlib.Core.List.{List}

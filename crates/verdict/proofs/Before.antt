@@ -3,29 +3,33 @@
 use mathlib.Core.Path.{_≡_, refl, sym, ap, ap₂, _∙_}
 use mathlib.Core.Bool.{Bool, true, false, cond}
 use mathlib.Core.List.{List, [], _∷_, map}
-use Prim.Native.Nat.{ℕ, zero, suc}
+use Prim.Native.Nat.{ℕ, zero, suc, _≤_}
+use native.Mathlib.Omega.{arith}
 use lib.Dec.{eqb}
 use borrow.Author.Tests.{eq-eqb}
-use Rattle.scenario.specs.Rows.{Row}
+use Rattle.scenario.specs.Rows.{Row, set-of, full-half}
 use Rattle.scenario.specs.Log.{Log, runOf}
-use Rattle.scenario.specs.Fields.{Fields, Tagged}
+use Rattle.scenario.specs.Fields.{Fields, Tagged, decode, rowOf}
 use Rattle.scenario.specs.Sheet.{Sheet, matching, antiscenario}
 use Rattle.scenario.specs.Search.{check, smallest-matching}
 use Rattle.scenario.specs.Reading.{All}
-use Rattle.scenario.specs.Before.{Narrow, OldSheet}
+use Rattle.scenario.specs.Before.{Narrow, OldSheet, OldLog}
+use Rattle.scenario.proofs.Numbers.{any-kind}
+use Rattle.scenario.proofs.Halves.{set-of-lower}
 use Rattle.scenario.proofs.Before.{fields-same, count-same, matching-same, search-same}
 use Rattle.sheet.specs.declared.Line.{Line}
 use Rattle.sheet.specs.declared.Answer.{Answer}
 use Rattle.sheet.specs.Row.{six}
-use Rattle.sheet.specs.Reading.{answer, sheetIn}
-use Rattle.sheet.specs.Text.{numbersOf, sheetText}
+use Rattle.sheet.specs.Reading.{answer, taken, rowIn, sheetIn}
+use Rattle.sheet.specs.Text.{Fits, numbersOf, sheetText}
 use Rattle.sheet.specs.Valid.{rowsOf, sectionsOf, sheetFrom, rowsSpelt}
-use Rattle.sheet.proofs.Valid.{valid-read}
+use Rattle.sheet.proofs.Theorems.{tag, accepted-rows}
+use Rattle.sheet.proofs.Valid.{valid-read, read-valid, read-text}
 use Rattle.runlog.specs.declared.Answer.{Answer as LogAnswer}
 use Rattle.runlog.specs.Log.{answer as log-answer, logOf, runIn}
-use Rattle.runlog.proofs.Theorems.{one-text}
+use Rattle.runlog.proofs.Theorems.{accepted-text, one-text}
 use Rattle.verdict.specs.Check.{Accepted, checkOf, verdictOf}
-use Rattle.verdict.specs.Before.{numbers-before, OldSheetText, OldLogText, Kept, OldKept}
+use Rattle.verdict.specs.Before.{numbers-before, OldSheetText, NoUpperHalf, OldLogText, Kept, OldKept}
 
 -- the same numbers, row by row
 numbers-same : (rows : List Tagged) → All (λ (t : Tagged). Narrow (t .row)) rows → map numbers-before rows ≡ map numbersOf rows
@@ -53,6 +57,44 @@ module _ (rows : List Tagged) (N : All (λ (t : Tagged). Narrow (t .row)) rows) 
   old-sheet : (k : ℕ) → OldSheet (sheetFrom k rows)
   unfolding sheetFrom
   old-sheet k = record { antecedent = narrow-rows 0 rows N; consequents = narrow-sections k 1 }
+
+-- Which texts these are today: accepted, with b 0 where it is no limit; accepted, with events 0 to 31.
+
+module _ (p q a b : ℕ) (h : a ≤ full-half) where
+  abbrev NarrowKind : ℕ → Type 0
+  NarrowKind k = ((k ≡ 10 → ⊥) → (k ≡ 11 → ⊥) → b ≡ 0) → Narrow (rowOf k p q a b)
+
+  narrow-kind : (k : ℕ) → NarrowKind k
+  unfolding decode
+  narrow-kind =
+      any-kind NarrowKind (λ z. tt)
+      (λ z. low (z (λ e. omega arith) (λ e. omega arith))) (λ z. low (z (λ e. omega arith) (λ e. omega arith))) (λ z. low (z (λ e. omega arith) (λ e. omega arith)))
+      (λ z. tt) (λ z. tt) (λ z. tt) (λ z. tt) (λ z. tt)
+      (λ z. low (z (λ e. omega arith) (λ e. omega arith))) (λ z. tt) (λ z. tt) (λ z. low (z (λ e. omega arith) (λ e. omega arith)))
+      (λ k z. tt)
+    where
+      low : b ≡ 0 → set-of a b ≤ full-half
+      low z = set-of-lower a b h z
+
+narrow-lines : (ls : List Line) → All Fits ls → All NoUpperHalf ls → All (λ (t : Tagged). Narrow (t .row)) (map tag ls)
+unfolding rowIn
+narrow-lines [] F N = tt
+narrow-lines (l ∷ ls) F N = (narrow-kind (l .p) (l .q) (l .a) (l .b) (F .0 .a) (l .kind) (N .0), narrow-lines ls (F .1) (N .1))
+
+pub accepted-old-sheet : (s : List ℕ) → answer s .refusal ≡ 0 → All NoUpperHalf (taken s .lines) → OldSheetText s
+unfolding rowsSpelt
+accepted-old-sheet s e N =
+    let M = narrow-lines (taken s .lines) (accepted-rows s e .columns) N in
+    record {
+      k = answer s .k;
+      rows = map tag (taken s .lines);
+      valid = read-valid s e;
+      narrow = M;
+      text = read-text s e ∙ ap (sheetText (answer s .k)) (sym (numbers-same (map tag (taken s .lines)) M));
+    }
+
+pub accepted-old-log : (l : List ℕ) → log-answer l .refusal ≡ 0 → OldLog (logOf l) → OldLogText l
+accepted-old-log l e old = let A = accepted-text l e in record { log = logOf l; valid = A .valid; old = old; text = A .text }
 
 -- THE THEOREM
 module _ (s l : List ℕ) (S : OldSheetText s) (L : OldLogText l) where

@@ -31,6 +31,10 @@ pub record OldSheetText (s : List ℕ) : Type 0 where
   pub narrow : All (λ (t : Tagged). Narrow (t .row)) rows
   pub text : s ≡ sheetText k (map numbers-before rows)
 
+-- in today's columns: a row whose b is 0, unless it is a limit
+abbrev pub NoUpperHalf : Line → Type 0
+NoUpperHalf l = (l .kind ≡ 10 → ⊥) → (l .kind ≡ 11 → ⊥) → l .b ≡ 0
+
 -- The bytes are the text of a valid log with events 0 to 31: these were the accepted logs.
 pub record OldLogText (l : List ℕ) : Type 0 where
   pub log : Log
