@@ -161,6 +161,11 @@ judgings =
     ∷ judging S late 2 (3 ∷ 1 ∷ 0 ∷ 77 ∷ []) 2 0 true
     ∷ judging (sheetText 0 []) (logText 0 []) 1 (9 ∷ []) 0 0 true
     ∷ judging (sheetText 0 (six 0 10 0 99 1 5 ∷ [])) (logText 6 []) 1 [] 0 0 false
+    -- A9: the close is 6 after the start, which is surely at most 7 and surely at least 5, and at neither limit 6
+    ∷ judging (sheetText 0 (six 0 10 0 99 5 7 ∷ [])) (logText 6 []) 1 [] 0 0 true
+    ∷ judging (sheetText 0 (six 0 10 0 99 5 6 ∷ [])) (logText 6 []) 1 [] 0 0 false
+    ∷ judging (sheetText 0 (six 0 10 0 99 6 7 ∷ [])) (logText 6 []) 1 [] 0 0 false
+    ∷ judging (sheetText 0 (six 0 11 0 99 6 7 ∷ [])) (logText 6 []) 1 [] 0 0 true
     -- 34, 31, the log's refusals and the sheet's, in the order of the document
     ∷ judging S late 2 (3 ∷ 1 ∷ []) 1 34 false
     ∷ judging S late 2 (3 ∷ 1 ∷ 1 ∷ []) 3 34 false

@@ -3,6 +3,7 @@ pub mod Whole
 pub mod Ending
 pub mod Texts
 pub mod Theorems
+pub mod Clock
 pub mod Loading
 pub mod Scans
 pub mod Logs

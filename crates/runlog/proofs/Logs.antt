@@ -1,7 +1,7 @@
 -- The log in memory: what its slices say of positions, and that its run has the laws that the theorems on rows ask.
 -- Assumes nothing.
 use mathlib.Core.Path.{_≡_, refl, sym, _∙_, ap, ap₂, subst}
-use mathlib.Core.Bool.{Bool, true, false, cond, and-false}
+use mathlib.Core.Bool.{Bool, true, false, _&&_, _||_, cond, and-false}
 use mathlib.Core.List.{List, [], _∷_}
 use Prim.Native.Nat.{ℕ, zero, suc, _+_, _-_, _≤_, _<_, min, max}
 use native.Mathlib.Omega.{arith}
@@ -10,11 +10,12 @@ use lib.Seq.{getD-take, getD-drop}
 use lib.Dec.{T, ltb, leb, eqb, not-T}
 use borrow.Author.Tests.{lt-ltb, le-ltb, le-leb, lt-leb, eq-eqb, ne-eqb}
 use Rattle.scenario.specs.Rows.{between, clear, full-set, event-count}
-use Rattle.scenario.specs.Log.{inSet, hasAt, tick, nearAt, runOf}
+use Rattle.scenario.specs.Log.{Log, inSet, hasAt, tick, gap, nearAt, runOf}
 use Rattle.scenario.proofs.Base.{is-true, is-false, getD-all, Order, lower, level, upper, order}
 use Rattle.scenario.proofs.Rules.{Laws, between-up, between-down, Between, up, down, between-way, clear-put, clear-get}
 use Rattle.scenario.proofs.Logs.{laws, inSet-full}
-use Rattle.runlog.specs.Held.{Events, Held, part, logOf, runAt, bare, tickOf, gap, nearOf}
+use Rattle.scenario.proofs.Clock.{near-one, near-two}
+use Rattle.runlog.specs.Held.{Events, Held, part, logOf, runAt, bare, tickOf, nearOf}
 
 -- the default does not matter in a list
 default : (l : List ℕ) (i d d' : ℕ) → i < length l → getD l i d ≡ getD l i d'
@@ -88,8 +89,19 @@ tick-is ticks events n h x = go (order x 0) (order n x)
     go (upper u) (upper l) = rw (ne-eqb x 0 (λ q. omega arith), le-ltb n x (omega arith), part-at ticks n room x (getD ticks (n + 1) 0) (omega arith) (omega arith))
 
 pub near-is : (ticks events : List ℕ) (n : ℕ) → n + 1 < length ticks → (x y lo hi : ℕ) → nearAt (logOf ticks events n) x y lo hi ≡ nearOf ticks n x y lo hi
-unfolding nearAt nearOf
-near-is ticks events n h x y lo hi = rw (tick-is ticks events n h x, tick-is ticks events n h y)
+unfolding nearOf
+near-is ticks events n h x y lo hi = go (order x y)
+  where
+    log : Log
+    log = logOf ticks events n
+
+    two : (x ≡ y → ⊥) → nearAt log x y lo hi ≡ nearOf ticks n x y lo hi
+    two e = near-two log x y lo hi e ∙ rw (tick-is ticks events n h x, tick-is ticks events n h y, ne-eqb x y e)
+
+    go : Order x y → nearAt log x y lo hi ≡ nearOf ticks n x y lo hi
+    go (lower l) = two (λ e. omega arith)
+    go (level e) = ap (λ (z : ℕ). nearAt log x z lo hi) (sym e) ∙ near-one log x lo hi ∙ rw (eq-eqb x y e)
+    go (upper l) = two (λ e. omega arith)
 
 pub tick-past : (ticks : List ℕ) (n x : ℕ) → n < x → tickOf ticks n x ≡ getD ticks (n + 1) 0
 unfolding tickOf
@@ -142,14 +154,21 @@ module _ (events : List ℕ) (n : ℕ) (E : Events events n) (s x y : ℕ) where
 
 -- Distances
 
-module _ (ticks : List ℕ) (n x y lo hi d s t : ℕ) (es : s ≡ tickOf ticks n x) (et : t ≡ tickOf ticks n y) (ed : d ≡ gap s t) where
-  far-end : gap (tickOf ticks n x) (tickOf ticks n y) ≡ d
-  far-end = sym (ed ∙ ap₂ gap es et)
-
-  pub near-low : d < lo → nearOf ticks n x y lo hi ≡ false
+module _ (ticks : List ℕ) (n x y lo hi : ℕ) where
+  pub near-level : x ≡ y → nearOf ticks n x y lo hi ≡ eqb lo 0
   unfolding nearOf
-  near-low h = rw far-end (simp (lt-leb lo d h))
+  near-level e = rw (eq-eqb x y e)
 
-  pub near-high : lo ≤ d → nearOf ticks n x y lo hi ≡ leb d hi
-  unfolding nearOf
-  near-high h = rw far-end (simp (le-leb lo d h))
+  module _ (d s t : ℕ) (es : s ≡ tickOf ticks n x) (et : t ≡ tickOf ticks n y) (ed : d ≡ gap s t) (two : x ≡ y → ⊥) where
+    near-apart : nearOf ticks n x y lo hi ≡ (ltb d hi && (eqb lo 0 || ltb lo d))
+    unfolding nearOf
+    near-apart = rw (ne-eqb x y two, ← es, ← et, ← ed)
+
+    pub near-far : hi ≤ d → nearOf ticks n x y lo hi ≡ false
+    near-far h = near-apart ∙ simp (le-ltb d hi h)
+
+    pub near-below : d < hi → lo ≡ 0 → nearOf ticks n x y lo hi ≡ true
+    near-below h e = near-apart ∙ simp (lt-ltb d hi h, eq-eqb lo 0 e)
+
+    pub near-above : d < hi → (lo ≡ 0 → ⊥) → nearOf ticks n x y lo hi ≡ ltb lo d
+    near-above h e = near-apart ∙ simp (lt-ltb d hi h, ne-eqb lo 0 e)

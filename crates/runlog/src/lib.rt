@@ -4,11 +4,11 @@ ghost use Prim.Native.Nat.{ℕ, _+_, _*_, _≤_, _<_, _-_, min, max};
 ghost use lib.ListN.{length};
 ghost use Rattle.runlog.specs.Numbers.{most-lines, ticks-room, events-room};
 ghost use Rattle.scenario.specs.Rows.{clear as clearOf, event-count};
-ghost use Rattle.scenario.specs.Log.{inSet, hasAt};
+ghost use Rattle.scenario.specs.Log.{inSet, hasAt, gap};
 ghost use Rattle.scenario.specs.Walk.{lowest-above, highest-below};
 ghost use Rattle.scenario.specs.Reading.{All};
 ghost use Rattle.runlog.specs.Log.{headed, refused, headOf, lineOf, linesFrom, taken, answer, linesRead, lay};
-ghost use Rattle.runlog.specs.Held.{Events, part, bare, tickOf, gap, nearOf, orZero, Loaded};
+ghost use Rattle.runlog.specs.Held.{Events, part, bare, tickOf, nearOf, orZero, Loaded};
 
 // Document 01's limits, and the bytes of the first line and of a line.
 const MOST_LINES: u32 = 4000;
@@ -332,7 +332,8 @@ fn apart(x: u32, y: u32) -> u32
     x - y
 }
 
-// Whether the distance of the ticks of positions x and y is from lo to hi.
+// Whether positions x and y surely keep the limits lo and hi (document 02, A9): on one position the distance is exactly 0, and on two d + 1 is at most hi and
+// d - 1 (0 if d is 0) at least lo; d + 1 itself need not fit in 32 bits.
 pub fn near(ticks: &[u32], n: u32, x: u32, y: u32, lo: u32, hi: u32) -> bool
     requires { ⌜ (n + 1 < length (now ticks)) × (n ≤ most-lines) ⌝ }
     ensures { λ r. ⌜ r ≡ nearOf (now (ticks .entry)) n x y lo hi ⌝ }
@@ -340,10 +341,16 @@ pub fn near(ticks: &[u32], n: u32, x: u32, y: u32, lo: u32, hi: u32) -> bool
     let s = tick_at(ticks, n, x);
     let t = tick_at(ticks, n, y);
     let d = apart(s, t);
-    if d < lo {
+    if x == y {
+        return lo == 0;
+    }
+    if hi <= d {
         return false;
     }
-    d <= hi
+    if lo == 0 {
+        return true;
+    }
+    lo < d
 }
 
 // The first position after x and up to top with its event in s, or 0.

@@ -88,12 +88,25 @@ no-lines = log 0 [] []
 injected : Log
 injected = log 300 (100 ∷ 200 ∷ 300 ∷ []) (2 ∷ 1 ∷ 3 ∷ [])
 
--- a scan comes at most 100, or at most 200, after the start; and a log that starts at 1000
+-- a scan comes at most 100, 200 or 201 after the start; and a log that starts at 1000, with a scan 200 after it
 soon : (limit : ℕ) → Sheet
 soon limit = record { antecedent = point 1 8 ∷ []; consequents = (within 0 1 0 limit ∷ []) ∷ [] }
 
 late-start : Log
 late-start = record { start = 1000; close = 1200; ticks = 1050 ∷ 1200 ∷ []; events = 3 ∷ 3 ∷ [] }
+
+-- A9: two scans are surely lo to hi apart; equal ticks on two lines. The whole run surely takes lo to hi; a run without lines that takes the longest time.
+scans-apart : (lo hi : ℕ) → Sheet
+scans-apart lo hi = record { antecedent = point 1 8 ∷ point 2 8 ∷ []; consequents = (within 1 2 lo hi ∷ []) ∷ [] }
+
+equal-ticks : Log
+equal-ticks = log 10 (10 ∷ 10 ∷ []) (3 ∷ 3 ∷ [])
+
+run-takes : (lo hi : ℕ) → Sheet
+run-takes lo hi = record { antecedent = []; consequents = (within 0 99 lo hi ∷ []) ∷ [] }
+
+longest : Log
+longest = log 4294967295 [] []
 
 -- What is asked, and the answer as lines of numbers
 
@@ -149,7 +162,10 @@ cases =
     ∷ [])
     ∷ is (check-of S (three-lines 900)) ((1 ∷ []) ∷ (3 ∷ []) ∷ (3 ∷ []) ∷ [])
     ∷ is (search-of S 2 (three-lines 900)) ((3 ∷ 1 ∷ []) ∷ [])
-    ∷ is (check-of S (three-lines 600)) ((0 ∷ []) ∷ [])
+    ∷ is (check-of S (three-lines 599)) ((0 ∷ []) ∷ [])
+    ∷ is (search-of S 2 (three-lines 599)) []
+    ∷ is (check-of S (three-lines 600)) ((1 ∷ []) ∷ (3 ∷ []) ∷ (3 ∷ []) ∷ [])
+    ∷ is (search-of S 2 (three-lines 600)) ((3 ∷ 1 ∷ []) ∷ [])
     ∷ is (check-of S (three-lines 601)) ((1 ∷ []) ∷ (3 ∷ []) ∷ (3 ∷ []) ∷ [])
     ∷ is (check-of S one-scan) ((1 ∷ []) ∷ (1 ∷ []) ∷ (2 ∷ []) ∷ [])
     ∷ is (check-of S injected) ((1 ∷ []) ∷ (3 ∷ []) ∷ (4 ∷ []) ∷ [])
@@ -166,7 +182,8 @@ cases =
     ∷ is (count-of (six five-denials)) ((5120 ∷ []) ∷ [])
     ∷ is (check-of (soon 100) late-start) ((1 ∷ []) ∷ (2 ∷ []) ∷ (2 ∷ []) ∷ [])
     ∷ is (search-of (soon 100) 1 late-start) ((2 ∷ []) ∷ [])
-    ∷ is (check-of (soon 200) late-start) ((0 ∷ []) ∷ [])
+    ∷ is (check-of (soon 200) late-start) ((1 ∷ []) ∷ (2 ∷ []) ∷ (2 ∷ []) ∷ [])
+    ∷ is (check-of (soon 201) late-start) ((0 ∷ []) ∷ [])
     ∷ is (rows-of two-by-two 2)
     ((0 ∷ 1 ∷ 1 ∷ 0 ∷ 8 ∷ 0 ∷ []) ∷ (0 ∷ 1 ∷ 2 ∷ 0 ∷ 8 ∷ 0 ∷ []) ∷ (1 ∷ 6 ∷ 2 ∷ 1 ∷ 0 ∷ 0 ∷ []) ∷ (2 ∷ 8 ∷ 2 ∷ 1 ∷ 0 ∷ 0 ∷ []) ∷ [])
     ∷ is (count-of chained) ((5 ∷ []) ∷ [])
@@ -192,6 +209,17 @@ cases =
     ∷ is (rows-of newer-board 4) ((0 ∷ 1 ∷ 1 ∷ 0 ∷ 0 ∷ 2 ∷ []) ∷ (1 ∷ 9 ∷ 1 ∷ 99 ∷ 0 ∷ 2147483648 ∷ []) ∷ [])
     ∷ is (rows-of newer-board 5)
     ((0 ∷ 1 ∷ 1 ∷ 0 ∷ 0 ∷ 2 ∷ []) ∷ (1 ∷ 2 ∷ 12 ∷ 1 ∷ 0 ∷ 2147483648 ∷ []) ∷ (1 ∷ 12 ∷ 12 ∷ 0 ∷ 4294967294 ∷ 2147483647 ∷ []) ∷ [])
+    ∷ is (check-of (scans-apart 0 0) one-scan) ((0 ∷ []) ∷ [])
+    ∷ is (check-of (scans-apart 0 0) equal-ticks) ((1 ∷ []) ∷ (1 ∷ 2 ∷ []) ∷ (3 ∷ []) ∷ [])
+    ∷ is (search-of (scans-apart 0 0) 1 equal-ticks) ((1 ∷ 2 ∷ []) ∷ [])
+    ∷ is (check-of (scans-apart 0 1) equal-ticks) ((0 ∷ []) ∷ [])
+    ∷ is (check-of (scans-apart 1 500) one-scan) ((1 ∷ []) ∷ (1 ∷ 1 ∷ []) ∷ (3 ∷ []) ∷ [])
+    ∷ is (check-of (run-takes 0 0) no-lines) ((1 ∷ []) ∷ [] ∷ (1 ∷ []) ∷ [])
+    ∷ is (check-of (run-takes 0 1) no-lines) ((0 ∷ []) ∷ [])
+    ∷ is (check-of (run-takes 0 4294967295) longest) ((1 ∷ []) ∷ [] ∷ (1 ∷ []) ∷ [])
+    ∷ is (search-of (run-takes 0 4294967295) 1 longest) ([] ∷ [])
+    ∷ is (check-of (run-takes 599 601) (three-lines 600)) ((0 ∷ []) ∷ [])
+    ∷ is (check-of (run-takes 600 602) (three-lines 600)) ((1 ∷ []) ∷ [] ∷ (1 ∷ []) ∷ [])
     ∷ is (check-of newer-board board-kept) ((0 ∷ []) ∷ [])
     ∷ is (check-of newer-board board-broken) ((1 ∷ []) ∷ (3 ∷ []) ∷ (3 ∷ []) ∷ [])
     ∷ is (search-of newer-board 2 board-broken) ((3 ∷ 1 ∷ 2 ∷ []) ∷ [])
@@ -215,7 +243,7 @@ passes c = same-lines (answer (c .question)) (c .expected)
 -- Every case of the table is as document 01 says.
 examples : all passes cases ≡ true
 unfolding cases passes same-lines same-line is answer check-lines search-lines row-line S no-rows empty-consequent two-scans four-denials five-denials six two-by-two chained upper-event newer-board
-    log three-lines one-scan one-upper board-kept board-broken no-lines injected soon late-start fields tagged written count chosen antiscenario choose flat total choices denials far-end denying-rows denying-free end
+    log three-lines one-scan one-upper board-kept board-broken no-lines injected soon late-start scans-apart equal-ticks run-takes longest fields tagged written count chosen antiscenario choose flat total choices denials far-end denying-rows denying-free end
     closure brings elem complement set-of lower-half upper-half smallest-matching check is-violating faults walk advance placing lowest-above highest-below least sweep
     matching all is-line meets env lookup points clear below between inSet hasAt tick nearAt
 examples = refl

@@ -20,7 +20,8 @@ pub mod Halves
 pub mod Logs
 pub mod Reading
 pub mod Final
--- What stands beside: denials, patterns, at most one extension, a search's steps, rows and numbers, old sheets, and the paper's examples.
+-- What stands beside: what the clock drops, denials, patterns, at most one extension, a search's steps, rows and numbers, old sheets, and the paper's examples.
+pub mod Clock
 pub mod Closure
 pub mod InOrder
 pub mod Patterns

@@ -1,6 +1,7 @@
 -- What document 01's terms mean, in the order in which to read them beside it.
 pub mod Rows
 pub mod Log
+pub mod Clock
 pub mod Denials
 pub mod DenialsInOrder
 pub mod Sheet

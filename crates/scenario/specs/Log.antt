@@ -26,9 +26,14 @@ hasAt events s x = leb 1 x && leb x (length events) && inSet s (getD events (x -
 unfoldable pub tick : Log → ℕ → ℕ
 tick log x = cond (eqb x 0) (log .start) (getD (log .ticks) (x - 1) (log .close))
 
--- "the distance of the ticks of p and q, without sign, is from a to b, both included"
+-- "the distance of the ticks of p and q, without sign"
+abbrev pub gap : (s t : ℕ) → ℕ
+gap s t = s - t + (t - s)
+
+-- Document 02, A9: "WITHIN is met at distance d when d + 1 is at most b, and d − 1 (0 if d is 0) is at least a. Points on one position have distance
+-- exactly 0 and are compared plainly": from a to b, both included. It goes by the positions x and y, not by their ticks. proofs/Clock says why.
 unfoldable pub nearAt : Log → (x y lo hi : ℕ) → Bool
-nearAt log x y lo hi = let d = tick log x - tick log y + (tick log y - tick log x) in leb lo d && leb d hi
+nearAt log x y lo hi = let d = gap (tick log x) (tick log y) in cond (eqb x y) (leb lo 0 && leb 0 hi) (leb (d + 1) hi && leb lo (d - 1))
 
 abbrev pub runOf : Log → Run
 runOf log = record { lines = length (log .events); has = hasAt (log .events); near = nearAt log }

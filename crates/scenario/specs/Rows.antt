@@ -41,8 +41,8 @@ full-half = 4294967295
 abbrev pub close-point : ℕ
 close-point = 99
 
--- The run that rows see of a log: its line count n; whether position x is a line with its event in the set s; and whether the distance of the
--- ticks of positions x and y is from lo to hi. 000 has executions (2.3.1 to 2.3.3), endless and with real times; ours end, with whole ticks.
+-- The run that rows see of a log: its line count n; whether position x is a line with its event in the set s; and whether positions x and y surely
+-- keep the limits lo and hi (A9). 000 has executions (2.3.1 to 2.3.3), endless and with real times; ours end, with whole ticks.
 pub record Run : Type 0 where
   pub lines : ℕ
   pub has : (s x : ℕ) → Bool

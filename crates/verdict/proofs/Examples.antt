@@ -1,4 +1,4 @@
--- Document 01's starred examples over bytes, in one table: a sheet's text and a log's, and what reading, writing, searching and the check answer.
+-- Document 01's starred examples over bytes, with what document 02 changes, in one table: a sheet's text and a log's, and what reading, writing, searching and the check answer.
 -- Assumes nothing.
 use mathlib.Core.Path.{_≡_, refl}
 use mathlib.Core.Bool.{Bool, true, false, cond}
@@ -105,6 +105,13 @@ twice1 = text.sheetText 1 (row.six 0 1 1 0 8 0 ∷ row.six 0 1 2 0 8 0 ∷ row.s
 abbrev twice2 : List ℕ
 twice2 = text.sheetText 1 (row.six 0 1 1 0 8 0 ∷ row.six 0 1 2 0 8 0 ∷ row.six 1 8 1 2 0 0 ∷ [])
 
+-- points 1 and 2 both with set 8, consequent WITHIN 1 2; and its antiscenario
+abbrev distance : (lo hi : ℕ) → List ℕ
+distance lo hi = text.sheetText 1 (row.six 0 1 1 0 8 0 ∷ row.six 0 1 2 0 8 0 ∷ row.six 1 10 1 2 lo hi ∷ [])
+
+abbrev distance1 : (lo hi : ℕ) → List ℕ
+distance1 lo hi = text.sheetText 1 (row.six 0 1 1 0 8 0 ∷ row.six 0 1 2 0 8 0 ∷ row.six 1 11 1 2 lo hi ∷ [])
+
 -- k = 0 and k = 1, without rows
 abbrev bare : ℕ → List ℕ
 bare k = text.sheetText k []
@@ -143,8 +150,9 @@ starred =
     -- 900: violated at 3, row 3; number 2 found at 3, 1; number 3 is not found
     example S (logText ((100, 2) ∷ (300, 3) ∷ (900, 3) ∷ [])) 2 4 0 S2 0 true (3 ∷ 1 ∷ 0 ∷ []) 0 true (3 ∷ []) (3 ∷ [])
     ∷ example S (logText ((100, 2) ∷ (300, 3) ∷ (900, 3) ∷ [])) 3 4 0 S3 0 false (0 ∷ 0 ∷ 0 ∷ []) 0 true (3 ∷ []) (3 ∷ [])
-    -- 600: holds; 601: violated
-    ∷ example S (logText ((100, 2) ∷ (300, 3) ∷ (600, 3) ∷ [])) 2 4 0 S2 0 false (0 ∷ 0 ∷ 0 ∷ []) 0 false [] []
+    -- A9: 599 holds; 600 is violated at row 3, and 601
+    ∷ example S (logText ((100, 2) ∷ (300, 3) ∷ (599, 3) ∷ [])) 2 4 0 S2 0 false (0 ∷ 0 ∷ 0 ∷ []) 0 false [] []
+    ∷ example S (logText ((100, 2) ∷ (300, 3) ∷ (600, 3) ∷ [])) 2 4 0 S2 0 true (3 ∷ 1 ∷ 0 ∷ []) 0 true (3 ∷ []) (3 ∷ [])
     ∷ example S (logText ((100, 2) ∷ (300, 3) ∷ (601, 3) ∷ [])) 2 4 0 S2 0 true (3 ∷ 1 ∷ 0 ∷ []) 0 true (3 ∷ []) (3 ∷ [])
     -- 10 3 alone: violated at 1, row 2
     ∷ example S (logText ((10, 3) ∷ [])) 1 4 0 S1 0 true (1 ∷ 0 ∷ 0 ∷ []) 0 true (1 ∷ []) (2 ∷ [])
@@ -160,6 +168,9 @@ starred =
     -- one scan: number 1 none, number 2 (SAME) at 1, 1
     ∷ example twice (logText ((10, 3) ∷ [])) 1 2 0 twice1 0 false (0 ∷ 0 ∷ 0 ∷ []) 0 true (1 ∷ 1 ∷ []) (3 ∷ [])
     ∷ example twice (logText ((10, 3) ∷ [])) 2 2 0 twice2 0 true (1 ∷ 1 ∷ 0 ∷ []) 0 true (1 ∷ 1 ∷ []) (3 ∷ [])
+    -- A9: equal ticks on two lines are two positions, and surely less than a millisecond apart, but not surely none
+    ∷ example (distance 0 1) (logText ((10, 3) ∷ (10, 3) ∷ [])) 1 1 0 (distance1 0 1) 0 false (0 ∷ 0 ∷ 0 ∷ []) 0 false [] []
+    ∷ example (distance 0 0) (logText ((10, 3) ∷ (10, 3) ∷ [])) 1 1 0 (distance1 0 0) 0 true (1 ∷ 2 ∷ 0 ∷ []) 0 true (1 ∷ 2 ∷ []) (3 ∷ [])
     -- A1: violated, and the pattern finds it; a newer board's rule kept, and broken in LAST, FREE and NEXT
     ∷ example upper (logText ((10, 33) ∷ [])) 1 1 0 upper1 0 true (1 ∷ 0 ∷ 0 ∷ []) 0 true (1 ∷ []) (2 ∷ [])
     ∷ example board (logText ((10, 32) ∷ (20, 33) ∷ (30, 63) ∷ [])) 4 4 0 board4 0 false (0 ∷ 0 ∷ 0 ∷ []) 0 false [] []
