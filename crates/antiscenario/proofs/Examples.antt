@@ -10,7 +10,7 @@ use Rattle.columns.specs.Spell.{spell, left, leftByte, lastByte}
 use Rattle.scenario.specs.Rows.{set-of, lower-half, upper-half, complement, meets, clear, below, between, points, denials, denying-rows, denying-free, end, far-end, closure, brings, elem}
 use Rattle.scenario.specs.Fields.{fields, decode, tagged, written}
 use Rattle.scenario.specs.Sheet.{lookup, env, all, flat, is-line, matching, count, total, choices, choose, chosen, antiscenario}
-use Rattle.scenario.specs.Log.{inSet, hasAt, tick, nearAt}
+use Rattle.scenario.specs.Log.{inSet, hasAt, tick, sure, nearAt}
 use Rattle.sheet.specs.declared.Line.{Line}
 use Rattle.sheet.specs.Row.{six, lineOf, refusal, sectionFits, refusalWithin, originFits, kindFits, pFits, isDue, ordinary, known, qFits, knownBut, ordinaryBut, bothOrdinary, restFits, setOnly, bothZero, roomFits, enter, advance}
 use Rattle.sheet.specs.Reading.{answer, taken, closing, headOf, rowsFrom, rowBytes, after, sheetOf, section, sections, rowIn}
@@ -177,7 +177,7 @@ judgings =
 
 pub judged-examples : map (λ (c : Judging). judgeOf (c .sheet) (c .log) (c .number) (c .positions) (c .filled)) judgings ≡ map (λ (c : Judging). c .judged) judgings
 unfolding set-of lower-half upper-half complement judgeOf refusalOf antiscenario flat chosen choose count total choices denials denying-rows denying-free end far-end closure brings elem decode
-    points matching all is-line meets env lookup clear below between inSet hasAt tick nearAt
+    points matching all is-line meets env lookup clear below between inSet hasAt tick sure nearAt
     sheetText headText rowsText rowText spell left leftByte lastByte fieldAt numeral scan
     answer taken closing headOf rowsFrom rowBytes after sheetOf section sections rowIn
     lineOf refusal sectionFits refusalWithin originFits kindFits pFits isDue ordinary known qFits knownBut ordinaryBut bothOrdinary restFits setOnly bothZero roomFits enter advance

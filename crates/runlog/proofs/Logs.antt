@@ -1,7 +1,7 @@
 -- The log in memory: what its slices say of positions, and that its run has the laws that the theorems on rows ask.
 -- Assumes nothing.
 use mathlib.Core.Path.{_≡_, refl, sym, _∙_, ap, ap₂, subst}
-use mathlib.Core.Bool.{Bool, true, false, _&&_, _||_, cond, and-false}
+use mathlib.Core.Bool.{Bool, true, false, cond, and-false}
 use mathlib.Core.List.{List, [], _∷_}
 use Prim.Native.Nat.{ℕ, zero, suc, _+_, _-_, _≤_, _<_, min, max}
 use native.Mathlib.Omega.{arith}
@@ -10,11 +10,11 @@ use lib.Seq.{getD-take, getD-drop}
 use lib.Dec.{T, ltb, leb, eqb, not-T}
 use borrow.Author.Tests.{lt-ltb, le-ltb, le-leb, lt-leb, eq-eqb, ne-eqb}
 use Rattle.scenario.specs.Rows.{between, clear, full-set, event-count}
-use Rattle.scenario.specs.Log.{Log, inSet, hasAt, tick, gap, nearAt, runOf}
+use Rattle.scenario.specs.Log.{Log, inSet, hasAt, tick, gap, sure, nearAt, runOf}
 use Rattle.scenario.proofs.Base.{is-true, is-false, getD-all, Order, lower, level, upper, order}
 use Rattle.scenario.proofs.Rules.{Laws, between-up, between-down, Between, up, down, between-way, clear-put, clear-get}
 use Rattle.scenario.proofs.Logs.{laws, inSet-full}
-use Rattle.scenario.proofs.Clock.{near-one, near-two}
+use Rattle.scenario.proofs.Clock.{near-one, near-apart, without-overflow}
 use Rattle.runlog.specs.Held.{Events, Held, part, logOf, runAt, bare, tickOf, nearOf}
 
 -- the default does not matter in a list
@@ -96,7 +96,7 @@ near-is ticks events n h x y lo hi = go (order x y)
     log = logOf ticks events n
 
     two : (x ≡ y → ⊥) → nearAt log x y lo hi ≡ nearOf ticks n x y lo hi
-    two e = near-two log x y lo hi e ∙ rw (tick-is ticks events n h x, tick-is ticks events n h y, ne-eqb x y e)
+    two e = near-apart log x y lo hi e ∙ rw (tick-is ticks events n h x, tick-is ticks events n h y, ne-eqb x y e)
 
     go : Order x y → nearAt log x y lo hi ≡ nearOf ticks n x y lo hi
     go (lower l) = two (λ e. omega arith)
@@ -159,16 +159,16 @@ module _ (ticks : List ℕ) (n x y lo hi : ℕ) where
   unfolding nearOf
   near-level e = rw (eq-eqb x y e)
 
-  module _ (d s t : ℕ) (es : s ≡ tickOf ticks n x) (et : t ≡ tickOf ticks n y) (ed : d ≡ gap s t) (two : x ≡ y → ⊥) where
-    near-apart : nearOf ticks n x y lo hi ≡ (ltb d hi && (eqb lo 0 || ltb lo d))
-    unfolding nearOf
-    near-apart = rw (ne-eqb x y two, ← es, ← et, ← ed)
+  pub near-two : (d s t : ℕ) → s ≡ tickOf ticks n x → t ≡ tickOf ticks n y → d ≡ gap s t → (x ≡ y → ⊥) → nearOf ticks n x y lo hi ≡ sure lo hi d
+  unfolding nearOf
+  near-two d s t es et ed two = rw (ne-eqb x y two, ← es, ← et, ← ed)
 
-    pub near-far : hi ≤ d → nearOf ticks n x y lo hi ≡ false
-    near-far h = near-apart ∙ simp (le-ltb d hi h)
+module _ (lo hi d : ℕ) where
+  pub sure-far : hi ≤ d → sure lo hi d ≡ false
+  sure-far h = without-overflow lo hi d ∙ simp (le-ltb d hi h)
 
-    pub near-below : d < hi → lo ≡ 0 → nearOf ticks n x y lo hi ≡ true
-    near-below h e = near-apart ∙ simp (lt-ltb d hi h, eq-eqb lo 0 e)
+  pub sure-below : d < hi → lo ≡ 0 → sure lo hi d ≡ true
+  sure-below h e = without-overflow lo hi d ∙ simp (lt-ltb d hi h, eq-eqb lo 0 e)
 
-    pub near-above : d < hi → (lo ≡ 0 → ⊥) → nearOf ticks n x y lo hi ≡ ltb lo d
-    near-above h e = near-apart ∙ simp (lt-ltb d hi h, ne-eqb lo 0 e)
+  pub sure-above : d < hi → (lo ≡ 0 → ⊥) → sure lo hi d ≡ ltb lo d
+  sure-above h e = without-overflow lo hi d ∙ simp (lt-ltb d hi h, ne-eqb lo 0 e)

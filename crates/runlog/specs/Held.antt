@@ -5,12 +5,12 @@ use mathlib.Core.List.{List}
 use mathlib.Core.Option.{Option, none, some}
 use Rattle.runlog.specs.Numbers.{most-lines}
 use Rattle.runlog.specs.Log.{logOf as log-of, answer as log-answer}
-use mathlib.Core.Bool.{Bool, false, _&&_, _||_, cond}
+use mathlib.Core.Bool.{Bool, false, cond}
 use Prim.Native.Nat.{ℕ, _+_, _≤_, _<_}
 use lib.Dec.{ltb, eqb}
 use lib.ListN.{length, getD, take, drop}
 use Rattle.scenario.specs.Rows.{Run, event-count}
-use Rattle.scenario.specs.Log.{Log, hasAt, gap, runOf}
+use Rattle.scenario.specs.Log.{Log, hasAt, gap, sure, runOf}
 
 -- The events stand there: the event of line x at index x.
 pub record Events (events : List ℕ) (n : ℕ) : Type 0 where
@@ -42,11 +42,9 @@ bare events n = record { lines = length (part events n); has = hasAt (part event
 unfoldable pub tickOf : (ticks : List ℕ) (n x : ℕ) → ℕ
 tickOf ticks n x = cond (ltb n x) (getD ticks (n + 1) 0) (getD ticks x 0)
 
--- whether positions x and y surely keep the limits, without d + 1
+-- whether positions x and y surely keep the limits
 unfoldable pub nearOf : (ticks : List ℕ) (n x y lo hi : ℕ) → Bool
-nearOf ticks n x y lo hi =
-    let d = gap (tickOf ticks n x) (tickOf ticks n y) in
-    cond (eqb x y) (eqb lo 0) (ltb d hi && (eqb lo 0 || ltb lo d))
+nearOf ticks n x y lo hi = cond (eqb x y) (eqb lo 0) (sure lo hi (gap (tickOf ticks n x) (tickOf ticks n y)))
 
 -- The log of the text l is in memory: ticks by position, 0 the start and n + 1 the close, and events by position.
 pub record Loaded (l ticks events : List ℕ) : Type 0 where

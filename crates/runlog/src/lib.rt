@@ -4,7 +4,7 @@ ghost use Prim.Native.Nat.{ℕ, _+_, _*_, _≤_, _<_, _-_, min, max};
 ghost use lib.ListN.{length};
 ghost use Rattle.runlog.specs.Numbers.{most-lines, ticks-room, events-room};
 ghost use Rattle.scenario.specs.Rows.{clear as clearOf, event-count};
-ghost use Rattle.scenario.specs.Log.{inSet, hasAt, gap};
+ghost use Rattle.scenario.specs.Log.{inSet, hasAt, gap, sure};
 ghost use Rattle.scenario.specs.Walk.{lowest-above, highest-below};
 ghost use Rattle.scenario.specs.Reading.{All};
 ghost use Rattle.runlog.specs.Log.{headed, refused, headOf, lineOf, linesFrom, taken, answer, linesRead, lay};
@@ -332,18 +332,11 @@ fn apart(x: u32, y: u32) -> u32
     x - y
 }
 
-// Whether positions x and y surely keep the limits lo and hi (document 02, A9): on one position the distance is exactly 0, and on two d + 1 is at most hi and
-// d - 1 (0 if d is 0) at least lo; d + 1 itself need not fit in 32 bits.
-pub fn near(ticks: &[u32], n: u32, x: u32, y: u32, lo: u32, hi: u32) -> bool
-    requires { ⌜ (n + 1 < length (now ticks)) × (n ≤ most-lines) ⌝ }
-    ensures { λ r. ⌜ r ≡ nearOf (now (ticks .entry)) n x y lo hi ⌝ }
+// Whether a distance d of two positions surely keeps the limits (document 02, A9): d + 1 is at most hi, and d - 1 (0 if d is 0) at least lo. The sum d + 1 need
+// not fit in 32 bits.
+fn surely(lo: u32, hi: u32, d: u32) -> bool
+    ensures { λ r. ⌜ r ≡ sure lo hi d ⌝ }
 {
-    let s = tick_at(ticks, n, x);
-    let t = tick_at(ticks, n, y);
-    let d = apart(s, t);
-    if x == y {
-        return lo == 0;
-    }
     if hi <= d {
         return false;
     }
@@ -351,6 +344,19 @@ pub fn near(ticks: &[u32], n: u32, x: u32, y: u32, lo: u32, hi: u32) -> bool
         return true;
     }
     lo < d
+}
+
+// Whether positions x and y surely keep the limits lo and hi: on one position the distance is exactly 0.
+pub fn near(ticks: &[u32], n: u32, x: u32, y: u32, lo: u32, hi: u32) -> bool
+    requires { ⌜ (n + 1 < length (now ticks)) × (n ≤ most-lines) ⌝ }
+    ensures { λ r. ⌜ r ≡ nearOf (now (ticks .entry)) n x y lo hi ⌝ }
+{
+    let s = tick_at(ticks, n, x);
+    let t = tick_at(ticks, n, y);
+    if x == y {
+        return lo == 0;
+    }
+    surely(lo, hi, apart(s, t))
 }
 
 // The first position after x and up to top with its event in s, or 0.

@@ -8,7 +8,7 @@ use native.Mathlib.Omega.{arith}
 use native.Mathlib.Nat.{mul-add, mul-one, mul-zero, mul-le-mul-left}
 use lib.Dec.{ltb, leb, eqb, T, ltb→lt, lt→ltb, leb→le, le→leb, nleb→lt, eqb→eq, T-not, not-T}
 use borrow.Author.Tests.{eq-eqb, ne-eqb, le-leb, lt-leb}
-use Rattle.scenario.specs.Log.{Log, tick, gap, nearAt}
+use Rattle.scenario.specs.Log.{Log, tick, gap, sure, nearAt}
 use Rattle.scenario.specs.Clock.{time, Ascending, Fractions, Kept, Surely, plainAt, AtLimit}
 use Rattle.scenario.proofs.Base.{both, pair, either, left, right, tell, T-eq, eq→eqb, neqb→neq, Order, lower, level, upper, order}
 
@@ -19,14 +19,12 @@ same-test true false f g = absurd (f tt)
 same-test false true f g = absurd (g tt)
 same-test false false f g = refl
 
--- "d + 1 is at most b, and d − 1 (0 if d is 0) is at least a"
-abbrev sure : (lo hi d : ℕ) → Bool
-sure lo hi d = leb (d + 1) hi && leb lo (d - 1)
-
 sure-put : (lo hi d : ℕ) → d + 1 ≤ hi → lo ≤ d - 1 → T (sure lo hi d)
+unfolding sure
 sure-put lo hi d h l = pair (leb (d + 1) hi) (leb lo (d - 1)) (le→leb (d + 1) hi h) (le→leb lo (d - 1) l)
 
 sure-get : (lo hi d : ℕ) → T (sure lo hi d) → (d + 1 ≤ hi) × (lo ≤ d - 1)
+unfolding sure
 sure-get lo hi d t = let b = both (leb (d + 1) hi) (leb lo (d - 1)) t in (leb→le (d + 1) hi (b .0), leb→le lo (d - 1) (b .1))
 
 gap-swap : (s t : ℕ) → gap s t ≡ gap t s
@@ -38,7 +36,7 @@ module _ (log : Log) (x y lo hi : ℕ) where
   unfolding nearAt
   near-level e = rw (eq-eqb x y e)
 
-  near-apart : (x ≡ y → ⊥) → nearAt log x y lo hi ≡ sure lo hi (gap (tick log x) (tick log y))
+  pub near-apart : (x ≡ y → ⊥) → nearAt log x y lo hi ≡ sure lo hi (gap (tick log x) (tick log y))
   unfolding nearAt
   near-apart n = rw (ne-eqb x y n)
 
@@ -55,7 +53,7 @@ near-one log x lo hi = near-level log x x lo hi refl ∙ same-test (leb lo 0 && 
     back t = pair (leb lo 0) (leb 0 hi) (le→leb lo 0 (omega (arith, eqb→eq lo 0 t))) (le→leb 0 hi (omega arith))
 
 -- d < b and (a = 0 or a < d)
-without-overflow : (lo hi d : ℕ) → sure lo hi d ≡ (ltb d hi && (eqb lo 0 || ltb lo d))
+pub without-overflow : (lo hi d : ℕ) → sure lo hi d ≡ (ltb d hi && (eqb lo 0 || ltb lo d))
 without-overflow lo hi d = same-test (sure lo hi d) (ltb d hi && (eqb lo 0 || ltb lo d)) there back
   where
     above : (lo ≡ 0 → ⊥) → lo ≤ d - 1 → lo < d
@@ -72,9 +70,6 @@ without-overflow lo hi d = same-test (sure lo hi d) (ltb d hi && (eqb lo 0 || lt
         let b = both (ltb d hi) (eqb lo 0 || ltb lo d) t in
         sure-put lo hi d (omega (arith, ltb→lt d hi (b .0)))
         (⊎-elim (λ e. omega (arith, eqb→eq lo 0 e)) (λ l. omega (arith, ltb→lt lo d l)) (either (eqb lo 0) (ltb lo d) (b .1)))
-
-pub near-two : (log : Log) (x y lo hi : ℕ) → (x ≡ y → ⊥) → nearAt log x y lo hi ≡ (let d = gap (tick log x) (tick log y) in ltb d hi && (eqb lo 0 || ltb lo d))
-near-two log x y lo hi n = near-apart log x y lo hi n ∙ without-overflow lo hi (gap (tick log x) (tick log y))
 
 -- Multiples
 

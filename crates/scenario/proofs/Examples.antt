@@ -9,7 +9,7 @@ use lib.ListN.{length}
 use lib.Dec.{eqb}
 use Rattle.scenario.specs.Rows.{Row, Run, point, next, last, earlier, before, same, free, within, event, set-of, lower-half, upper-half, complement, between, below, clear, meets, points, elem, brings, closure, end, denying-free, far-end, denying-rows, denials}
 use Rattle.scenario.specs.Sheet.{Sheet, lookup, env, all, flat, is-line, matching, choices, total, choose, count, chosen, antiscenario, Answer, nothing, found, Demand}
-use Rattle.scenario.specs.Log.{Log, inSet, hasAt, tick, nearAt, runOf}
+use Rattle.scenario.specs.Log.{Log, inSet, hasAt, tick, sure, nearAt, runOf}
 use Rattle.scenario.specs.Walk.{placing, lowest-above, highest-below, advance, walk}
 use Rattle.scenario.specs.Search.{sweep, least, smallest-matching, is-violating, check, faults}
 use Rattle.scenario.specs.Fields.{fields, Tagged, tagged, written}
@@ -245,7 +245,7 @@ examples : all passes cases ≡ true
 unfolding cases passes same-lines same-line is answer check-lines search-lines row-line S no-rows empty-consequent two-scans four-denials five-denials six two-by-two chained upper-event newer-board
     log three-lines one-scan one-upper board-kept board-broken no-lines injected soon late-start scans-apart equal-ticks run-takes longest fields tagged written count chosen antiscenario choose flat total choices denials far-end denying-rows denying-free end
     closure brings elem complement set-of lower-half upper-half smallest-matching check is-violating faults walk advance placing lowest-above highest-below least sweep
-    matching all is-line meets env lookup points clear below between inSet hasAt tick nearAt
+    matching all is-line meets env lookup points clear below between inSet hasAt tick sure nearAt
 examples = refl
 
 -- k = 0 and no rows: violated on every log; an empty consequent: holds on every log.

@@ -30,10 +30,13 @@ tick log x = cond (eqb x 0) (log .start) (getD (log .ticks) (x - 1) (log .close)
 abbrev pub gap : (s t : ℕ) → ℕ
 gap s t = s - t + (t - s)
 
--- Document 02, A9: "WITHIN is met at distance d when d + 1 is at most b, and d − 1 (0 if d is 0) is at least a. Points on one position have distance
--- exactly 0 and are compared plainly": from a to b, both included. It goes by the positions x and y, not by their ticks. proofs/Clock says why.
+-- Document 02, A9: "WITHIN is met at distance d when d + 1 is at most b, and d − 1 (0 if d is 0) is at least a". proofs/Clock says why.
+unfoldable pub sure : (lo hi d : ℕ) → Bool
+sure lo hi d = leb (d + 1) hi && leb lo (d - 1)
+
+-- "Points on one position have distance exactly 0 and are compared plainly": from a to b, both included. It goes by positions x and y, not by their ticks.
 unfoldable pub nearAt : Log → (x y lo hi : ℕ) → Bool
-nearAt log x y lo hi = let d = gap (tick log x) (tick log y) in cond (eqb x y) (leb lo 0 && leb 0 hi) (leb (d + 1) hi && leb lo (d - 1))
+nearAt log x y lo hi = cond (eqb x y) (leb lo 0 && leb 0 hi) (sure lo hi (gap (tick log x) (tick log y)))
 
 abbrev pub runOf : Log → Run
 runOf log = record { lines = length (log .events); has = hasAt (log .events); near = nearAt log }

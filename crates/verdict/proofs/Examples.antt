@@ -188,7 +188,7 @@ unfolding number.fieldAt number.numeral number.scan spelling.spell spelling.left
     rows.denials rows.denying-rows rows.denying-free rows.end rows.far-end rows.closure rows.brings rows.elem rows.set-of rows.lower-half rows.upper-half rows.complement rows.meets rows.points rows.clear rows.below rows.between
     fields.decode fields.fields fields.tagged fields.written
     sheets.count sheets.total sheets.choices sheets.choose sheets.chosen sheets.flat sheets.antiscenario sheets.matching sheets.all sheets.is-line sheets.env sheets.lookup
-    logs.inSet logs.hasAt logs.tick logs.nearAt walks.placing walks.lowest-above walks.highest-below walks.advance walks.walk
+    logs.inSet logs.hasAt logs.tick logs.sure logs.nearAt walks.placing walks.lowest-above walks.highest-below walks.advance walks.walk
     searches.sweep searches.least searches.smallest-matching searches.is-violating searches.check searches.faults
     writing.writeOf writing.writtenText writing.writtenLines building.lineFrom text.numbersOf matchings.filled judging.refusalOf searching.searchOf
     checkOf verdictOf violatedAt front
