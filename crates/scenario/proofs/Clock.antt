@@ -3,13 +3,13 @@
 use mathlib.Core.Path.{_≡_, refl, sym, _∙_, ap, ap₂, subst}
 use mathlib.Core.Logic.{_↔_, _⊎_, inl, inr, ⊎-elim}
 use mathlib.Core.Bool.{Bool, true, false, not, _&&_, _||_, cond}
-use Prim.Native.Nat.{ℕ, zero, suc, _+_, _-_, _*_, _≤_, _<_}
+use Prim.Native.Nat.{ℕ, _+_, _-_, _*_, _≤_, _<_}
 use native.Mathlib.Omega.{arith}
 use native.Mathlib.Nat.{mul-add, mul-one, mul-zero, mul-le-mul-left}
-use lib.Dec.{ltb, leb, eqb, T, ltb→lt, lt→ltb, leb→le, le→leb, nleb→lt, eqb→eq, T-not, not-T}
+use lib.Dec.{ltb, leb, eqb, T, ltb→lt, lt→ltb, leb→le, le→leb, eqb→eq, T-not, not-T}
 use borrow.Author.Tests.{eq-eqb, ne-eqb, le-leb, lt-leb}
 use Rattle.scenario.specs.Log.{Log, tick, gap, sure, nearAt}
-use Rattle.scenario.specs.Clock.{time, Ascending, Fractions, Kept, Surely, plainAt, AtLimit}
+use Rattle.scenario.specs.Clock.{time, Ascending, Fractions, InLimits, Surely, plainAt, AtLimit}
 use Rattle.scenario.proofs.Base.{both, pair, either, left, right, tell, T-eq, eq→eqb, neqb→neq, Order, lower, level, upper, order}
 
 -- two tests that follow from each other are equal
@@ -89,7 +89,7 @@ module _ (u : ℕ) where
 -- Sure is kept, whatever was dropped
 
 -- of the ticks s and s + d, with the fractions f and g
-kept-up : (u s d f g lo hi : ℕ) → f < u → g < u → d + 1 ≤ hi → lo ≤ d - 1 → Kept u lo hi (gap (u * s + f) (u * (s + d) + g))
+kept-up : (u s d f g lo hi : ℕ) → f < u → g < u → d + 1 ≤ hi → lo ≤ d - 1 → InLimits u lo hi (gap (u * s + f) (u * (s + d) + g))
 kept-up u s d f g lo hi hf hg h l = record { least = low (order d 0); most = omega (arith, times-more u d hi h, mul-add u s d) }
   where
     low : Order d 0 → u * lo ≤ gap (u * s + f) (u * (s + d) + g)
@@ -97,19 +97,19 @@ kept-up u s d f g lo hi hf hg h l = record { least = low (order d 0); most = ome
     low (level e) = omega (arith, times-none u lo (omega arith))
     low (upper i) = omega (arith, times-more u lo d (omega arith), mul-add u s d)
 
-kept-either : (u s t f g lo hi : ℕ) → f < u → g < u → gap s t + 1 ≤ hi → lo ≤ gap s t - 1 → Kept u lo hi (gap (u * s + f) (u * t + g))
+kept-either : (u s t f g lo hi : ℕ) → f < u → g < u → gap s t + 1 ≤ hi → lo ≤ gap s t - 1 → InLimits u lo hi (gap (u * s + f) (u * t + g))
 kept-either u s t f g lo hi hf hg h l = go (order s t)
   where
-    rising : (s t f g : ℕ) → f < u → g < u → gap s t + 1 ≤ hi → lo ≤ gap s t - 1 → s ≤ t → Kept u lo hi (gap (u * s + f) (u * t + g))
-    rising s t f g hf hg h l o = subst (λ (k : ℕ). Kept u lo hi (gap (u * s + f) (u * k + g))) up (kept-up u s (t - s) f g lo hi hf hg (omega arith) (omega arith))
+    rising : (s t f g : ℕ) → f < u → g < u → gap s t + 1 ≤ hi → lo ≤ gap s t - 1 → s ≤ t → InLimits u lo hi (gap (u * s + f) (u * t + g))
+    rising s t f g hf hg h l o = subst (λ (k : ℕ). InLimits u lo hi (gap (u * s + f) (u * k + g))) up (kept-up u s (t - s) f g lo hi hf hg (omega arith) (omega arith))
       where
         up : s + (t - s) ≡ t
         up = omega arith
 
-    falling : t ≤ s → Kept u lo hi (gap (u * s + f) (u * t + g))
-    falling o = subst (Kept u lo hi) (gap-swap (u * t + g) (u * s + f)) (rising t s g f hg hf (omega (arith, gap-swap s t)) (omega (arith, gap-swap s t)) o)
+    falling : t ≤ s → InLimits u lo hi (gap (u * s + f) (u * t + g))
+    falling o = subst (InLimits u lo hi) (gap-swap (u * t + g) (u * s + f)) (rising t s g f hg hf (omega (arith, gap-swap s t)) (omega (arith, gap-swap s t)) o)
 
-    go : Order s t → Kept u lo hi (gap (u * s + f) (u * t + g))
+    go : Order s t → InLimits u lo hi (gap (u * s + f) (u * t + g))
     go (lower o) = rising s t f g hf hg h l (omega arith)
     go (level e) = rising s t f g hf hg h l (omega arith)
     go (upper o) = falling (omega arith)
@@ -184,7 +184,7 @@ module _ (u : ℕ) (two : 2 ≤ u) (log : Log) (rises : Ascending (tick log)) wh
         on a b h (upper l) (level e) = late a b h (omega arith) (omega arith)
         on a b h (upper l) (upper m) = late a b h (omega arith) (omega arith)
 
-  -- Kept whatever was dropped is sure
+  -- InLimits whatever was dropped is sure
 
   module _ (lo hi : ℕ) where
     most-sure : (s t : ℕ) → s ≤ t → gap (u * s + 0) (u * t + (u - 1)) ≤ u * hi → gap s t + 1 ≤ hi
@@ -237,7 +237,7 @@ module _ (u : ℕ) (two : 2 ≤ u) (log : Log) (rises : Ascending (tick log)) wh
         least (upper l) = absurd (omega (arith, rises x y (omega arith)))
 
     surely-swap : Surely u log x y lo hi → Surely u log y x lo hi
-    surely-swap S f F = subst (Kept u lo hi) (gap-swap (time u log f x) (time u log f y)) (S f F)
+    surely-swap S f F = subst (InLimits u lo hi) (gap-swap (time u log f x) (time u log f y)) (S f F)
 
   -- THE THEOREM. "A WITHIN limit shall count as kept only if the fraction cannot undo it", and if it cannot: in every unit of which a millisecond has two or more.
   pub within-surely : (x y lo hi : ℕ) → T (nearAt log x y lo hi) ↔ Surely u log x y lo hi
@@ -253,7 +253,7 @@ module _ (u : ℕ) (two : 2 ≤ u) (log : Log) (rises : Ascending (tick log)) wh
 
       there : Order x y → T (nearAt log x y lo hi) → Surely u log x y lo hi
       there (lower l) t = apart (λ e. omega arith) t
-      there (level e) t = λ f F. subst (λ (z : ℕ). Kept u lo hi (gap (time u log f x) (time u log f z))) e
+      there (level e) t = λ f F. subst (λ (z : ℕ). InLimits u lo hi (gap (time u log f x) (time u log f z))) e
           (record { least = omega (arith, times-none u lo (ends e t)); most = omega arith })
       there (upper l) t = apart (λ e. omega arith) t
 

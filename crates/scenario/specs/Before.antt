@@ -1,4 +1,4 @@
--- Sets in one field, as document 01 had them before document 02's A1, for one statement: old sheets keep their verdicts. What must be believed.
+-- Sets in one field, as document 01 had them before document 02's A1 and else as now, for one statement: old sheets keep their verdicts. What must be believed.
 -- Assumes nothing.
 use mathlib.Core.List.{List, [], _∷_, _++_, map}
 use Prim.Native.Nat.{ℕ, suc, _+_, _-_, _*_, _≤_, _<_}

@@ -22,13 +22,13 @@ pub record Fractions (u : ℕ) (log : Log) (f : ℕ → ℕ) : Type 0 where
   pub ascending : Ascending (time u log f)
 
 -- from lo to hi milliseconds, both included
-pub record Kept (u lo hi distance : ℕ) : Type 0 where
+pub record InLimits (u lo hi distance : ℕ) : Type 0 where
   pub least : u * lo ≤ distance
   pub most : distance ≤ u * hi
 
 -- "A WITHIN limit shall count as kept only if the fraction cannot undo it": the times of positions x and y keep it, whatever was dropped.
 abbrev pub Surely : (u : ℕ) → Log → (x y lo hi : ℕ) → Type 0
-Surely u log x y lo hi = (f : ℕ → ℕ) → Fractions u log f → Kept u lo hi (gap (time u log f x) (time u log f y))
+Surely u log x y lo hi = (f : ℕ → ℕ) → Fractions u log f → InLimits u lo hi (gap (time u log f x) (time u log f y))
 
 -- What A9 changed, for one statement (proofs/Clock): document 01's "the distance of the ticks of p and q, without sign, is from a to b, both included"
 unfoldable pub plainAt : Log → (x y lo hi : ℕ) → Bool

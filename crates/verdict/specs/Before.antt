@@ -42,7 +42,8 @@ pub record OldLogText (l : List ℕ) : Type 0 where
   pub old : OldLog log
   pub text : l ≡ logText log
 
--- What such a sheet and log keep; `sheet` and `log` are what the bytes spell, and the antiscenarios before are those with document 01's denial of EVENT.
+-- What such a sheet and log keep of what A1 touches; `sheet` and `log` are what the bytes spell, and the antiscenarios before are those with document 01's denial of
+-- EVENT. WITHIN is met as A9 has it on both sides: what A9 changed is said by scenario's specs/Clock.
 pub record Kept (s l : List ℕ) (sheet : Sheet) (log : Log) : Type 0 where
   -- both are accepted, and read as they were
   pub accepted : Accepted s l
