@@ -54,13 +54,13 @@ fn in_words(opened: &Opened, number: u64, antiscenario: &Sheet) -> String {
 }
 
 fn object(opened: &Opened, number: u64, text: &[u8]) -> Answer<String> {
-    let rows = array(Sheet::of(text)?.rows.iter().map(|row| row_object(Object::new(), row, &opened.events)));
+    let rows = array(Sheet::of(text)?.rows.iter().map(|row| row_in_object(Object::new(), row, &opened.events).end()));
     let object = Object::new().number("number", number).number("of", opened.count).raw("rows", &rows);
     Ok(object.text("text", &String::from_utf8_lossy(text)).end() + "\n")
 }
 
 /// A row by its fields and in words, behind what the object has already.
-pub fn row_object(object: Object, row: &Row, events: &Events) -> String {
+pub fn row_in_object(object: Object, row: &Row, events: &Events) -> Object {
     let object = object.number("section", row.section).text("kind", row.kind.name()).number("p", row.p).number("q", row.q);
-    object.number("a", row.a).number("b", row.b).text("words", &asks(row, events)).end()
+    object.number("a", row.a).number("b", row.b).text("words", &asks(row, events))
 }

@@ -7,18 +7,20 @@ use crate::logs::{Listed, Logs};
 use crate::names::Name;
 use crate::opened::{named, no_facts, open, refused_columns, refused_object, Opened};
 use crate::order::in_order;
-use crate::output::{Output, FAILED};
+use crate::output::{complain, Output, FAILED};
 use crate::placed::{in_object, placed};
 use crate::progress::Progress;
 use crate::refusal::Refused;
+use crate::remark::remark;
 use crate::reply::{Reply, Reporter, Standing, Tally};
 use crate::sheet::{Kind, Row};
 use crate::violation::{rows_in_object, violation, Violation};
-use crate::words::line;
+use crate::words::{file_line, line};
 use satskhubo_interface::answer::{check, Answer, Failure, Refusal, Verdict};
 
 pub fn run(asked: &Asked, output: &mut Output) -> i32 {
     let Some(opened) = open(asked, output) else { return FAILED };
+    say_remarks(&opened);
     let logs = Logs::of(&asked.logs, &opened.left_out());
     let task = Task { opened, form: asked.form, is_one: logs.is_one() };
     let progress = Progress::new(logs.listed.len() as u64, "logs");
@@ -35,6 +37,15 @@ pub fn run(asked: &Asked, output: &mut Output) -> i32 {
         output.say(&logs.counted(&summary(&tally)));
     }
     tally.status(logs.listed.len())
+}
+
+/// A remark is no answer: it is said once for the sheet, in every form, on standard error.
+fn say_remarks(opened: &Opened) {
+    for (number, row) in (1..).zip(&opened.sheet.rows) {
+        if let Some(remark) = remark(number, row) {
+            complain(&format!("remark: {}, line {} of the file: {remark}", opened.input.name.words(), file_line(number)));
+        }
+    }
 }
 
 fn summary(tally: &Tally) -> String {

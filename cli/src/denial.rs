@@ -1,15 +1,11 @@
 //! Document 01: denials. How many each row gives, and the rows in which each ends; document 02, A1: with both halves of a set.
-use crate::sheet::{Kind, Row, CLOSE, START};
+use crate::sheet::{is_end, Kind, Row, CLOSE, START};
 
 /// Which of a row's denials: some have a second.
 #[derive(Clone, Copy, Debug, PartialEq, Eq)]
 pub enum Choice {
     First,
     Second,
-}
-
-fn is_end(point: u32) -> bool {
-    point == START || point == CLOSE
 }
 
 pub fn count(row: &Row) -> u64 {

@@ -1,9 +1,11 @@
 //! satskhubo explain: a sheet in words, row by row.
-use crate::antiscenarios::row_object;
+use crate::antiscenarios::row_in_object;
 use crate::arguments::{Asked, Form};
+use crate::events::Events;
 use crate::json::{array, Object};
 use crate::opened::{open, Opened};
 use crate::output::{Output, FAILED};
+use crate::remark::remark;
 use crate::sheet::{Row, Sheet};
 use crate::words::{asks, count};
 
@@ -36,14 +38,22 @@ fn section_in_words(opened: &Opened, section: u32) -> String {
         _ => format!("section {section}, consequent {section}: it is in order if\n"),
     };
     let numbered = (1..).zip(&opened.sheet.rows);
-    let own: Vec<(usize, &Row)> = numbered.filter(|(_, row)| row.section == section).collect();
+    let own: Vec<(u32, &Row)> = numbered.filter(|(_, row)| row.section == section).collect();
     for (number, row) in &own {
-        said.push_str(&format!("  row {number:>3}  {:<8} {}\n", row.kind.name(), asks(row, &opened.events)));
+        said.push_str(&row_in_words(*number, row, &opened.events));
     }
     if own.is_empty() {
         said.push_str("  no rows: it is always met\n");
     }
     said + &points_in_words(&opened.sheet, section)
+}
+
+fn row_in_words(number: u32, row: &Row, events: &Events) -> String {
+    let said = format!("  row {number:>3}  {:<8} {}\n", row.kind.name(), asks(row, events));
+    match remark(number, row) {
+        Some(remark) => said + &format!("{:11}remark:  {remark}\n", ""),
+        None => said,
+    }
 }
 
 fn points_in_words(sheet: &Sheet, section: u32) -> String {
@@ -57,7 +67,10 @@ fn points_in_words(sheet: &Sheet, section: u32) -> String {
 
 fn object(opened: &Opened) -> String {
     let Opened { input, sheet, events, .. } = opened;
-    let row = |(number, row): (usize, &Row)| row_object(Object::new().number("row", number), row, events);
+    let row = |(number, row): (u32, &Row)| {
+        let object = row_in_object(Object::new().number("row", number), row, events);
+        object.optional("remark", remark(number, row).as_deref()).end()
+    };
     let object = input.name.in_object(Object::new(), "sheet").number("consequents", sheet.consequents);
     let object = object.number("antiscenarios", opened.count);
     object.raw("rows", &array((1..).zip(&sheet.rows).map(row))).end() + "\n"

@@ -3,6 +3,7 @@
 use crate::denial::Choice;
 use crate::events::Events;
 use crate::log::Log;
+use crate::remark::{no_two_ticks, reach, Reach, FRACTIONS};
 use crate::sheet::{Kind, Row, Sheet, CLOSE, START};
 use crate::words::{line, point};
 use std::collections::BTreeMap;
@@ -110,9 +111,15 @@ impl<'a> Walk<'a> {
         }
     }
 
-    fn difference(&self, row: &Row) -> Option<u32> {
-        let tick = |point| self.log.tick(self.position(point)?);
-        Some(tick(row.p)?.abs_diff(tick(row.q)?))
+    /// How far apart the points of WITHIN or OUTSIDE are.
+    fn distance(&self, row: &Row) -> Option<String> {
+        let (p, q) = (self.position(row.p)?, self.position(row.q)?);
+        if p == q {
+            return Some("they are one line, exactly 0 ms apart".to_string());
+        }
+        let distance = self.log.tick(p)?.abs_diff(self.log.tick(q)?);
+        let missed = if row.kind == Kind::Within { format!("; {}", missed(row, distance)) } else { String::new() };
+        Some(format!("they differ by {distance}{missed}"))
     }
 
     /// The finding in words.
@@ -131,9 +138,21 @@ impl<'a> Walk<'a> {
             }
             (Kind::Within | Kind::Outside, _) => {
                 let (p, q) = (self.place_of(p)?, self.place_of(q)?);
-                Some(format!("{p}; {q}; they differ by {}", self.difference(row)?))
+                Some(format!("{p}; {q}; {}", self.distance(row)?))
             }
             _ => Some(format!("{}; {}", self.place_of(p)?, self.place_of(q)?)),
         }
+    }
+}
+
+/// The limit of WITHIN that ticks so far apart miss, with the millisecond that the fractions may take.
+fn missed(row: &Row, distance: u32) -> String {
+    let Row { a, b, .. } = *row;
+    match reach(row) {
+        Reach::OneLine | Reach::Nowhere => no_two_ticks(row),
+        Reach::TwoTicks if distance >= b => {
+            format!("{FRACTIONS}, they must differ by at most {} for at most {b} ms to be sure", b - 1)
+        }
+        Reach::TwoTicks => format!("{FRACTIONS}, they must differ by at least {} for at least {a} ms to be sure", a + 1),
     }
 }

@@ -30,6 +30,7 @@ what it asks and what was found. Several logs, or a folder: a line each and a su
 --json: an object a log: file, sheet, verdict (holds, violated, refused, unreadable), refusal, positions, lines, ticks, events,
 rows (consequent, row, kind, asked, found); of a log that holds, antecedent (point, set, a, b, lines), where the set is
 a + 2^32 b; of, line and words of a refusal; error.
+A row with limits that no two ticks keep, since the clock drops fractions, is remarked on once, on standard error.
 Exit status: 0 all hold; 1 some are violated; 2 something is refused, not read or failed.
 ";
 
@@ -58,7 +59,9 @@ Exit status: 0 nothing is found; 1 something is found; 2 something is refused, n
 const EXPLAIN: &str = "\
 satskhubo explain SHEET [--json] [--events FILE]
 
-The sheet in words: how many consequents, rows and antiscenarios it has, and each row by its section.
+The sheet in words: how many consequents, rows and antiscenarios it has, and each row by its section, with a remark where no two
+ticks keep its limits.
+--json: an object: sheet, consequents, antiscenarios, rows (row, section, kind, p, q, a, b, words, remark).
 Exit status: 0 done; 2 refused, not read or failed.
 ";
 

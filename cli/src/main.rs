@@ -24,6 +24,7 @@ mod output;
 mod placed;
 mod progress;
 mod refusal;
+mod remark;
 mod reply;
 mod search;
 mod sheet;

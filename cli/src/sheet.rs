@@ -5,6 +5,11 @@ use satskhubo_interface::answer::{Answer, Failure};
 pub const START: u32 = 0;
 pub const CLOSE: u32 = 99;
 
+/// The start or the close, which are no lines.
+pub fn is_end(point: u32) -> bool {
+    point == START || point == CLOSE
+}
+
 /// Document 01: kinds of row.
 #[derive(Clone, Copy, Debug, PartialEq, Eq)]
 #[repr(u32)]

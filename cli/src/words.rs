@@ -10,13 +10,13 @@ pub fn point(point: u32) -> String {
     }
 }
 
-/// A line of the log, which in the file stands behind the first line.
 pub fn line(position: u32) -> String {
     format!("line {position} of the log, line {} of the file", file_line(position))
 }
 
-pub fn file_line(position: u32) -> u64 {
-    u64::from(position) + 1
+/// Where a line of a log, or a row of a sheet, stands in its file: behind the first line.
+pub fn file_line(number: u32) -> u64 {
+    u64::from(number) + 1
 }
 
 /// What a row asks.
@@ -32,8 +32,8 @@ pub fn asks(row: &Row, events: &Events) -> String {
         Kind::Apart => format!("{p} and {q} are different lines"),
         Kind::Same => format!("{p} and {q} are the same line"),
         Kind::Free => format!("{} between {p} and {q}", events.free_of(row.set())),
-        Kind::Within => format!("the ticks of {p} and {q} differ by {a} to {b}"),
-        Kind::Outside => format!("the ticks of {p} and {q} do not differ by {a} to {b}"),
+        Kind::Within => format!("{p} and {q} are surely {a} to {b} ms apart"),
+        Kind::Outside => format!("{p} and {q} are not surely {a} to {b} ms apart"),
     }
 }
 

@@ -4,7 +4,7 @@ use common::program::run;
 use common::top;
 use std::fs;
 
-/// Each command line of a page with the lines below it.
+/// Each command line of a page with the lines below it; standard error is what begins with the program's name.
 fn shown(page: &str) -> Vec<(String, String)> {
     let text = fs::read_to_string(top().join(page)).unwrap();
     let mut blocks: Vec<(String, String)> = Vec::new();
@@ -25,7 +25,8 @@ fn says_what_is_shown(page: &str) -> Vec<String> {
     let blocks = shown(page);
     for (words, answer) in &blocks {
         let said = run(&words.split(' ').collect::<Vec<_>>());
-        assert_eq!((said.out.as_str(), said.err.as_str()), (answer.as_str(), ""), "{page}: {words}");
+        let (err, out): (Vec<&str>, Vec<&str>) = answer.split_inclusive('\n').partition(|line| line.starts_with("satskhubo: "));
+        assert_eq!((said.out, said.err), (out.concat(), err.concat()), "{page}: {words}");
     }
     blocks.into_iter().map(|(_, answer)| answer).collect()
 }

@@ -45,6 +45,9 @@ fn says_what_it_finds() {
     assert_eq!(said(&violated), format!("violated at 3, rows at fault 3\n{number_two}"));
     let holds = run(&mut Command::new(&program), "lockmass/sheet", "lockmass/log-kept");
     assert_eq!((holds.status.code(), said(&holds).as_str()), (Some(0), "holds\n"));
+    // Document 02, A9: a millisecond more.
+    let fraction = run(&mut Command::new(&program), "lockmass/sheet", "lockmass/log-fraction");
+    assert_eq!((fraction.status.code(), said(&fraction)), (Some(1), said(&violated)));
     let large = run(&mut Command::new(&program), "supplier/sheet", "supplier/log");
     let due = "violated at 17, rows at fault 3 15 26 38 50 62\nsearched: 4096 of 16777216 antiscenarios\n";
     assert_eq!((large.status.code(), said(&large).as_str()), (Some(1), due));

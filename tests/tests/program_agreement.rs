@@ -1,7 +1,7 @@
 //! The program against the other checker, on random sheets and many logs at once: exit status, document 01's columns, and JSON with its words.
 mod common;
-use common::program::{file, opened, plain_check, run};
-use common::words::{asked, found, KINDS};
+use common::program::{file, opened, plain_check, run, Said};
+use common::words::{asked, found, remark, remarks, KINDS};
 use common::{scratch, tell};
 use satskhubo_tests::generate::pairs::large_pair_of;
 use satskhubo_tests::generate::sheets::{self, sheet_s};
@@ -13,7 +13,7 @@ use satskhubo_tests::reference::blunder::Blunder;
 use satskhubo_tests::reference::log::{self, Log};
 use satskhubo_tests::reference::operations::{Opened, Verdict, MOST_POINTS};
 use satskhubo_tests::reference::rows::points;
-use satskhubo_tests::reference::sheet::{self, kind::*};
+use satskhubo_tests::reference::sheet::{self, kind::*, Row};
 use std::ops::RangeInclusive;
 use std::path::Path;
 
@@ -92,8 +92,12 @@ fn checks_alike(sheet_name: &str, sheet: &[u8], folder: &str, logs: &[(String, V
     let all: Vec<Opened> = logs.iter().map(|(_, log)| opened(sheet, log)).collect();
     let due: Vec<(i32, String)> = all.iter().map(plain_check).collect();
     let status = worst(due.iter().map(|(status, _)| *status));
-    let plain = run(&["check", "--plain", sheet_name, folder]).answer();
-    let in_json = run(&["check", "--json", sheet_name, folder]).answer();
+    let remarks = all[0].sheet.as_ref().map_or(String::new(), |sheet| remarks(sheet_name, &sheet.rows));
+    let [plain, in_json] = ["--plain", "--json"].map(|form| {
+        let said = run(&["check", form, sheet_name, folder]);
+        assert_eq!(said.err, remarks);
+        (said.status, said.out)
+    });
     assert_eq!((plain.0, in_json.0), (status, status));
     let objects = json::lines(&in_json.1);
     if let Err(fault) = &all[0].sheet {
@@ -194,6 +198,13 @@ fn searches_alike(sheet_name: &str, sheet: &[u8], logs: &[(String, Vec<u8>)], so
     next as u64
 }
 
+/// A row in an object, by its fields and in words.
+fn has_row(said: &Json, row: &Row) {
+    let numbers = ["section", "p", "q", "a", "b"].map(|name| said.get(name).number() as u32);
+    assert_eq!(numbers, [row.section, row.p, row.q, row.a, row.b]);
+    assert_eq!((said.get("kind").text(), said.get("words").text()), (KINDS[row.kind as usize], asked(row).as_str()));
+}
+
 fn writes_alike(sheet_name: &str, sheet: &[u8], some: Option<RangeInclusive<u64>>) -> u64 {
     let opened = opened(sheet, b"");
     let count = opened.read_sheet().unwrap();
@@ -213,11 +224,7 @@ fn writes_alike(sheet_name: &str, sheet: &[u8], some: Option<RangeInclusive<u64>
         assert_eq!(object.get("text").text().as_bytes(), text);
         let rows = antiscenario(opened.sheet.as_ref().unwrap(), number);
         assert_eq!(object.get("rows").list().len(), rows.len());
-        for (row, said) in rows.iter().zip(object.get("rows").list()) {
-            let numbers = ["section", "p", "q", "a", "b"].map(|name| said.get(name).number() as u32);
-            assert_eq!(numbers, [row.section, row.p, row.q, row.a, row.b]);
-            assert_eq!((said.get("kind").text(), said.get("words").text()), (KINDS[row.kind as usize], asked(row).as_str()));
-        }
+        rows.iter().zip(object.get("rows").list()).for_each(|(row, said)| has_row(said, row));
     }
     texts.len() as u64
 }
@@ -238,13 +245,50 @@ fn searches_and_antiscenarios_of_random_sheets() {
     tell("program: searches and antiscenarios", comparisons);
 }
 
+/// The rows of a sheet explained, by their fields and in words, with their remarks.
+fn explains_alike(sheet_name: &str, rows: &[Row]) {
+    let object = json::lines(&run(&["explain", "--json", sheet_name]).answer().1).remove(0);
+    assert_eq!(object.get("rows").list().len(), rows.len());
+    for ((number, row), said) in (1..).zip(rows).zip(object.get("rows").list()) {
+        has_row(said, row);
+        assert_eq!(said.get("row").number(), number as u64);
+        assert_eq!(said.get("remark"), &remark(number, row).map_or(Json::Null, Json::Text), "{said:?}");
+    }
+}
+
+/// Document 02, A9: the remarks on each sheet, in its explanation and beside a verdict.
+#[test]
+fn remarks_on_random_sheets() {
+    let folder = scratch("remarks");
+    let mut random = Random::new(77);
+    let (mut remarked, mut without) = (String::new(), 0);
+    const SHEETS: usize = 500;
+    for round in 0..SHEETS {
+        let text = random_sheet(&mut random, round);
+        let Ok(sheet) = sheet::read(&text, Blunder::None) else { continue };
+        let log = logs::random(&mut random, 3).text();
+        let (name, log_name) = (file(&folder, "sheet", &text), file(&folder, "log", &log));
+        let (status, out) = plain_check(&opened(&text, &log));
+        let err = remarks(&name, &sheet.rows);
+        assert_eq!(run(&["check", "--plain", &name, &log_name]), Said { status, out, err: err.clone() });
+        explains_alike(&name, &sheet.rows);
+        without += u32::from(err.is_empty());
+        remarked += &err;
+    }
+    for due in ["can be met on one line only: ", "can never be met: ", "is always met on two lines: ", "is always met: "] {
+        assert!(remarked.contains(due), "no sheet has {due}");
+    }
+    assert!(without > 20, "{without} sheets without a remark");
+    tell("program: remarks on random sheets", 2 * SHEETS as u64);
+}
+
 /// Document 02, A4: of more than 4,096 numbers, some; at the front, at the end, and anywhere between, past 32 bits too.
 #[test]
 fn ranges_of_large_sheets() {
     let folder = scratch("ranges");
     let mut random = Random::new(76);
     let (mut comparisons, mut most) = (0, 0);
-    for seed in 0..60 {
+    for seed in 0..120 {
         let Pair { sheet: text, log } = large_pair_of(seed);
         let count = sheet::read(&text, Blunder::None).unwrap().count;
         if count <= 4096 {

@@ -1,7 +1,7 @@
 //! An answer that cannot be written, a run that is ended, and a place that cannot be written: exit status 2 with words, or the signal; nothing is
 //! left behind and nothing is lost in silence.
 mod common;
-use common::program::{command, file, opened, plain_check, program, run, Said, KEPT, LOG, SHEET};
+use common::program::{command, file, opened, plain_check, program, run, Said, KEPT, LOG, REMARK, SHEET};
 use common::{as_nobody, scratch, until, Public};
 use satskhubo_tests::generate::logs::uniform;
 use satskhubo_tests::reference::sheet::{self, kind::*, Row};
@@ -12,12 +12,13 @@ use std::path::Path;
 use std::process::{Command, Stdio};
 
 /// Something that writes, for each command and form.
-const RUNS: [&[&str]; 13] = [
+const RUNS: [&[&str]; 14] = [
     &["check", SHEET, LOG],
     &["check", SHEET, KEPT],
     &["check", "--plain", SHEET, KEPT],
     &["check", "--json", SHEET, LOG, KEPT],
     &["check", LOG, LOG],
+    &["check", "--plain", REMARK, KEPT],
     &["search", SHEET, LOG],
     &["search", "--json", SHEET, KEPT],
     &["antiscenarios", SHEET],

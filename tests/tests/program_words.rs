@@ -24,8 +24,8 @@ fn a_violation() {
     let due = "violated: examples/lockmass/log breaks the rule of examples/lockmass/sheet
   point 1 is at line 3 of the log, line 4 of the file, tick 900, event 3
   consequent 1 cannot be met: row 3, WITHIN
-    asked: the ticks of point 11 and point 1 differ by 0 to 500
-    found: point 11 is at line 1 of the log, line 2 of the file, tick 100; point 1 is at line 3 of the log, line 4 of the file, tick 900; they differ by 800
+    asked: point 11 and point 1 are surely 0 to 500 ms apart
+    found: point 11 is at line 1 of the log, line 2 of the file, tick 100; point 1 is at line 3 of the log, line 4 of the file, tick 900; they differ by 800; as the clock drops fractions, they must differ by at most 499 for at most 500 ms to be sure
 ";
     assert_eq!(run(&["check", SHEET, LOG]).answer(), (1, due.to_string()));
     let due = "violated: examples/lockmass/log-injection breaks the rule of examples/lockmass/sheet
@@ -87,14 +87,15 @@ fn ticks_up_to_the_largest() {
     assert_eq!(status, 1);
     for due in [
         "point 1 is at line 2 of the log, line 3 of the file, tick 4294967295, event 3\n",
-        "asked: the ticks of point 11 and point 1 differ by 0 to 4294967293\n",
-        "they differ by 4294967295\n",
+        "asked: point 11 and point 1 are surely 0 to 4294967293 ms apart\n",
+        "they differ by 4294967295; ",
+        "at most 4294967292 for at most 4294967293 ms to be sure\n",
     ] {
         assert!(text.contains(due), "{text}");
     }
-    let close = [[1, OUTSIDE, 0, 99, LARGEST, LARGEST]];
-    let (status, text) = checked(1, &close, &[(LARGEST, 31)]);
-    assert!(status == 1 && text.contains("the close is at tick 4294967295; they differ by 4294967295"), "{text}");
+    let close = [[1, OUTSIDE, 0, 99, LARGEST - 2, LARGEST]];
+    let (status, text) = checked(1, &close, &[(LARGEST - 1, 31)]);
+    assert!(status == 1 && text.contains("the close is at tick 4294967294; they differ by 4294967294\n"), "{text}");
     let name = file(&scratch("words-ticks"), "log", &log_of(&[(2_147_483_647, 2), (2_147_483_648, 3), (LARGEST, 3)]).text());
     let (_, text) = run(&["search", SHEET, &name]).answer();
     assert!(text.contains("tick 4294967295, event 3") && text.contains("tick 2147483647, event 2"), "{text}");

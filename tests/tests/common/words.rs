@@ -73,10 +73,61 @@ pub fn asked(row: &Row) -> String {
         APART => format!("{p} and {q} are different lines"),
         SAME => format!("{p} and {q} are the same line"),
         FREE => format!("{} between {p} and {q}", none_of(row.set())),
-        WITHIN => format!("the ticks of {p} and {q} differ by {a} to {b}"),
-        OUTSIDE => format!("the ticks of {p} and {q} do not differ by {a} to {b}"),
+        WITHIN => format!("{p} and {q} are surely {a} to {b} ms apart"),
+        OUTSIDE => format!("{p} and {q} are not surely {a} to {b} ms apart"),
         other => panic!("kind {other}"),
     }
+}
+
+/// Document 02, A9: whether ticks that differ by d keep the upper limit, and the lower one.
+fn keeps(d: u64, a: u32, b: u32) -> (bool, bool) {
+    (d < u64::from(b), if d == 0 { a == 0 } else { d > u64::from(a) })
+}
+
+/// No distance keeps both, not even the lowest that keeps the lower one.
+fn is_beyond_ticks(a: u32, b: u32) -> bool {
+    [0, u64::from(a), u64::from(a) + 1].iter().all(|&d| keeps(d, a, b) != (true, true))
+}
+
+fn beyond_ticks(a: u32, b: u32) -> String {
+    format!("as the clock drops fractions, no two ticks are surely {a} to {b} ms apart")
+}
+
+/// What is said of a distance that does not keep the limits.
+fn missed(d: u64, a: u32, b: u32) -> String {
+    let must = |bound: &str, limit: u32, tick: u64| {
+        format!("as the clock drops fractions, they must differ by {bound} {tick} for {bound} {limit} ms to be sure")
+    };
+    match keeps(d, a, b) {
+        _ if is_beyond_ticks(a, b) => beyond_ticks(a, b),
+        (false, _) => must("at most", b, u64::from(b) - 1),
+        (true, false) => must("at least", a, u64::from(a) + 1),
+        (true, true) => panic!("{d} keeps {a} to {b}"),
+    }
+}
+
+/// The remark on a row of this number, where there is one.
+pub fn remark(number: usize, row: &Row) -> Option<String> {
+    let Row { p, q, a, b, .. } = *row;
+    if ![WITHIN, OUTSIDE].contains(&row.kind) || !is_beyond_ticks(a, b) {
+        return None;
+    }
+    let may_be_one_line = ![p, q].iter().any(|point| [START, CLOSE].contains(point));
+    let said = match (row.kind == WITHIN, a == 0 && may_be_one_line) {
+        (true, true) => "can be met on one line only",
+        (true, false) => "can never be met",
+        (false, true) => "is always met on two lines",
+        (false, false) => "is always met",
+    };
+    Some(format!("row {number}, {}, {said}: {}", KINDS[row.kind as usize], beyond_ticks(a, b)))
+}
+
+/// What a check says on standard error of a sheet that is accepted.
+pub fn remarks(sheet_name: &str, rows: &[Row]) -> String {
+    let line = |(number, row)| {
+        Some(format!("satskhubo: remark: {sheet_name}, line {} of the file: {}\n", number + 1, remark(number, row)?))
+    };
+    (1..).zip(rows).filter_map(line).collect()
 }
 
 /// Where the points of a consequent stand before its row at fault: the one matching of antecedent and these rows over the placement.
@@ -111,7 +162,13 @@ pub fn found(sheet: &Sheet, log: &Log, placement: &[u32], fault: usize) -> Strin
             format!("{}, tick {}, has event {}", line(between), log.tick(between), event(between))
         }
         WITHIN | OUTSIDE => {
-            format!("{}; {}; they differ by {}", place(row.p), place(row.q), log.tick(p).abs_diff(log.tick(q)))
+            let d = log.tick(p).abs_diff(log.tick(q)).into();
+            let distance = match row.kind {
+                _ if p == q => "they are one line, exactly 0 ms apart".into(),
+                WITHIN => format!("they differ by {d}; {}", missed(d, row.a, row.b)),
+                _ => format!("they differ by {d}"),
+            };
+            format!("{}; {}; {distance}", place(row.p), place(row.q))
         }
         _ => format!("{}; {}", place(row.p), place(row.q)),
     }
