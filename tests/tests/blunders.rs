@@ -6,11 +6,12 @@ use satskhubo_tests::expected::{Blundering, VIOLATED};
 use satskhubo_tests::generate::families::{self, Family};
 use satskhubo_tests::generate::logs::log_of;
 use satskhubo_tests::generate::pairs::{large_pair_of, pair_of};
+use satskhubo_tests::generate::sheets::sheet_s;
 use satskhubo_tests::generate::Pair;
 use satskhubo_tests::reference::blunder::Blunder;
 use satskhubo_tests::reference::log::Log;
 use satskhubo_tests::reference::operations::open;
-use satskhubo_tests::reference::sheet::{self, kind::*, Row};
+use satskhubo_tests::reference::sheet::{self, kind::*, Row, CLOSE, START};
 use std::io::Write;
 
 const MOST_PAIRS: u64 = 400;
@@ -42,9 +43,18 @@ const AGAINST_DEMAND_3: [Blunder; 5] =
     [Blunder::ReverseOnly, Blunder::DifferentLines, Blunder::EndsBetween, Blunder::BringsAll, Blunder::NoneWithoutConsequents];
 /// Document 02, A1: the slips that do.
 const IN_HALVES: [Blunder; 2] = [Blunder::EventDeniedBelow32, Blunder::UpperHalfLost];
+/// Document 02, A9: the slips that short distances show; the first of them does.
+const AT_LIMITS: [Blunder; 6] = [
+    Blunder::OutsideAsBefore,
+    Blunder::EqualTicksOnePosition,
+    Blunder::AntecedentAsBefore,
+    Blunder::LowerLimitPlain,
+    Blunder::LessThanZero,
+    Blunder::BeforeA9,
+];
 
 fn break_demand_3(name: &str, breaks: impl Fn(&mut Comparison<Blundering>) -> bool) {
-    for blunder in AGAINST_DEMAND_3.into_iter().chain(IN_HALVES) {
+    for blunder in AGAINST_DEMAND_3.into_iter().chain(IN_HALVES).chain([Blunder::OutsideAsBefore]) {
         let broken = |seed: &u64| breaks(&mut Comparison::new(&Blundering(blunder), &pair_of(*seed), *seed));
         let pairs = (0..4 * MOST_PAIRS).find(broken).unwrap_or_else(|| panic!("{blunder:?} keeps {name}")) + 1;
         writeln!(std::io::stderr(), "{blunder:?} breaks {name} at pair {pairs}").unwrap();
@@ -85,7 +95,8 @@ fn are_found_in(families: Vec<Family>, logs: &[Log], blunders: impl Iterator<Ite
 
 #[test]
 fn the_small_family_finds_them() {
-    are_found_in(families::small(), &families::logs(), AGAINST_DEMAND_3.into_iter().chain([Blunder::BringsEarlier]));
+    let blunders = AGAINST_DEMAND_3.into_iter().chain([Blunder::BringsEarlier]).chain(AT_LIMITS);
+    are_found_in(families::small(), &families::logs(), blunders);
 }
 
 #[test]
@@ -173,10 +184,61 @@ fn staying_with_32_events() {
     is_found(Blunder::BeforeA1);
 }
 
+/// Document 02, A9: the blunder is found, and answers otherwise on one row over these ends: an antecedent that is met, and so violated, or not.
+fn is_found_between(blunder: Blunder, [kind, a, b]: [u32; 3], [start, close]: [u32; 2]) {
+    is_found(blunder);
+    let pair = Pair {
+        sheet: sheet::text(0, &[Row::new(0, kind, START, CLOSE, a, b)]),
+        log: Log { start, close, lines: vec![], blunder: Blunder::None }.text(),
+    };
+    let checked = |blunder| open(&pair.sheet, &pair.log, blunder).checked().answer;
+    assert_ne!(checked(blunder), checked(Blunder::None), "{blunder:?}");
+}
+
+/// At distance 500 neither WITHIN 0 500 nor OUTSIDE 0 500 is met: violated, and no pattern matches.
+#[test]
+fn leaving_outside_as_it_was() {
+    is_found_between(Blunder::OutsideAsBefore, [OUTSIDE, 0, 500], [0, 500]);
+    let example = Pair { sheet: sheet_s(), log: log_of(&[(100, 2), (300, 3), (600, 3)]).text() };
+    let opened = |blunder| open(&example.sheet, &example.log, blunder);
+    let blundering = opened(Blunder::OutsideAsBefore);
+    assert_eq!((blundering.checked().answer, opened(Blunder::None).search(2, 2)), (VIOLATED, Ok(Some(vec![3, 1]))));
+    assert!((1..=4).all(|number| blundering.search(number, 3) == Ok(None)));
+    assert!(Comparison::new(&Blundering(Blunder::OutsideAsBefore), &example, 0).demand_3_alone().is_err());
+}
+
+#[test]
+fn taking_equal_ticks_for_one_position() {
+    is_found_between(Blunder::EqualTicksOnePosition, [WITHIN, 0, 0], [7, 7]);
+}
+
+/// d + 1 at 4,294,967,295, and d − 1 at 0.
+#[test]
+fn counting_distances_in_32_bits() {
+    is_found_between(Blunder::DistanceIn32Bits, [WITHIN, 0, u32::MAX], [0, u32::MAX]);
+    is_found_between(Blunder::LessThanZero, [WITHIN, 5, 10], [7, 7]);
+}
+
+#[test]
+fn leaving_the_antecedent_as_it_was() {
+    is_found_between(Blunder::AntecedentAsBefore, [WITHIN, 0, 500], [0, 500]);
+}
+
+#[test]
+fn leaving_the_lower_limit_as_it_was() {
+    is_found_between(Blunder::LowerLimitPlain, [WITHIN, 5, 10], [7, 12]);
+}
+
+/// What document 01 said before A9 is no longer what is answered.
+#[test]
+fn taking_ticks_as_exact() {
+    is_found_between(Blunder::BeforeA9, [WITHIN, 0, 500], [0, 500]);
+}
+
 /// On large sheets too, where demand 3 goes by placements.
 #[test]
 fn demand_3_finds_them_in_large_sheets() {
-    for blunder in [Blunder::ReverseOnly, Blunder::EndsBetween, Blunder::BringsAll] {
+    for blunder in [Blunder::ReverseOnly, Blunder::EndsBetween, Blunder::BringsAll, Blunder::OutsideAsBefore] {
         let is_large = |seed: &u64| open(&large_pair_of(*seed).sheet, b"", Blunder::None).read_sheet().unwrap() > 4096;
         let breaks = |seed: &u64| Comparison::new(&Blundering(blunder), &large_pair_of(*seed), *seed).demand_3().is_err();
         let pairs = (0..4 * MOST_PAIRS).filter(is_large).find(breaks);

@@ -136,7 +136,7 @@ fn event_with_a_set_of_the_upper_half() {
 fn the_nearest_line_of_both_halves() {
     for (first, second) in [(1, 40), (40, 1), (40, 40), (1, 1)] {
         let next =
-            after_a_scan([1, 2, 11, 1, 2, 256]).replacen("  1  2\n", "  1  3\n", 1) + "  1 10 11  1          0          5\n";
+            after_a_scan([1, 2, 11, 1, 2, 256]).replacen("  1  2\n", "  1  3\n", 1) + "  1 10 11  1          0          6\n";
         assert_eq!(verdict(&pair(next.as_bytes(), &[(1, 3), (6, first), (7, second)])), None);
         assert_eq!(verdict(&pair(next.as_bytes(), &[(1, 3), (7, first), (8, second)])), Some((vec![1], vec![3])));
         let last = next.replace("  1  2 11", "  1  3 11");

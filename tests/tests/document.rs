@@ -28,7 +28,9 @@ fn logs_for_sheet_s() {
     let late = pair(&s, &[(100, 2), (300, 3), (900, 3)]);
     assert_eq!(verdict(&late), Some((vec![3], vec![3])));
     assert_eq!(found(&late, 2), Some(vec![3, 1]));
-    assert_eq!(verdict(&pair(&s, &[(100, 2), (300, 3), (600, 3)])), None);
+    // Document 02, A9: with 600 it held.
+    assert_eq!(verdict(&pair(&s, &[(100, 2), (300, 3), (599, 3)])), None);
+    assert_eq!(verdict(&pair(&s, &[(100, 2), (300, 3), (600, 3)])), Some((vec![3], vec![3])));
     assert_eq!(verdict(&pair(&s, &[(100, 2), (300, 3), (601, 3)])), Some((vec![3], vec![3])));
     assert_eq!(verdict(&pair(&s, &[(10, 3)])), Some((vec![1], vec![2])));
     let between = pair(&s, &[(100, 2), (200, 1), (300, 3)]);

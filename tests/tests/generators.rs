@@ -1,5 +1,5 @@
-//! What the random pairs and their arguments reach: every kind in every section that permits it, both verdicts, and every refusal; and
-//! what the small family has.
+//! What the random pairs and their arguments reach: every kind in every section that permits it, limits at and next to distances, both verdicts,
+//! and every refusal; and what the families have.
 use satskhubo_tests::generate::arguments::{arguments_of, Arguments};
 use satskhubo_tests::generate::families;
 use satskhubo_tests::generate::pairs::{large_pair_of, pair_of};
@@ -9,12 +9,15 @@ use satskhubo_tests::reference::columns::read_line;
 use satskhubo_tests::reference::log::Log;
 use satskhubo_tests::reference::operations::{open, Opened, Verdict};
 use satskhubo_tests::reference::refusal::Refusal;
+use satskhubo_tests::reference::rows::positions_of;
 use satskhubo_tests::reference::sheet::{self, introduced, kind::*, Row, Sheet, CLOSE, START};
 use satskhubo_tests::reference::weeded;
 use std::collections::BTreeMap;
 use std::io::Write;
 
-const PAIRS: u64 = 5000;
+const PAIRS: u64 = 10_000;
+/// Document 02, A9: a limit and a distance meet in each way at least so often.
+const OFTEN: u64 = 10;
 
 type Reached = BTreeMap<String, u64>;
 
@@ -51,6 +54,79 @@ fn halves_of(row: &Row) -> usize {
 fn sets_in_halves() -> Vec<String> {
     let kinds = [POINT, NEXT, LAST, FREE, EVENT].into_iter();
     kinds.flat_map(|kind| HALVES.map(|half| format!("kind {kind} with a set in {half}"))).collect()
+}
+
+/// Document 02, A9: what the limits of a row are beside a distance d.
+const LIMITS: [(&str, fn(&Row, u32) -> bool); 12] = [
+    ("d = b", |row, d| d == row.b),
+    ("d = b - 1", |row, d| d.checked_add(1) == Some(row.b)),
+    ("a = 0", |row, _| row.a == 0),
+    ("a = b", |row, _| row.a == row.b),
+    ("b = a + 1", |row, _| row.a.checked_add(1) == Some(row.b)),
+    ("b = 0", |row, _| row.b == 0),
+    ("b = 1", |row, _| row.b == 1),
+    ("d = a > 0", |row, d| d == row.a && d > 0),
+    ("d = a + 1", |row, d| row.a.checked_add(1) == Some(d)),
+    ("the longest d", |_, d| d == u32::MAX),
+    ("the longest d and b", |row, d| d == u32::MAX && d == row.b),
+    ("the longest b and d = b - 1", |row, d| row.b == u32::MAX && d == row.b - 1),
+];
+/// So many of them can be at distance 0, and so many at any short one.
+const AT_0: usize = 7;
+const SHORT: usize = 9;
+
+/// Where the two points of a row may stand: on one line, or on two positions, most of which may be apart.
+const PLACES: [(&str, usize, fn(&Log, u32, u32) -> bool); 7] = [
+    ("one line", AT_0, |_, x, y| x == y),
+    ("two lines of one tick", AT_0, |log, x, y| x != y && are_lines(log, x, y) && log.distance(x, y) == 0),
+    ("two lines", SHORT, |log, x, y| x != y && are_lines(log, x, y)),
+    ("the start and a line", SHORT, |log, x, y| x.min(y) == 0 && x.max(y) <= log.n()),
+    ("a line and the close", SHORT, |log, x, y| x.min(y) > 0 && x.max(y) > log.n()),
+    ("the start and the close", SHORT, |log, x, y| log.n() > 0 && x.min(y) == 0 && x.max(y) > log.n()),
+    ("the start and the close without lines", SHORT, |log, x, y| log.n() == 0 && x != y),
+];
+
+fn are_lines(log: &Log, x: u32, y: u32) -> bool {
+    x.min(y) > 0 && x.max(y) <= log.n()
+}
+
+/// What a row of WITHIN or OUTSIDE has somewhere on the log, each once.
+fn of_limits(reached: &mut Reached, row: &Row, log: &Log) {
+    if ![WITHIN, OUTSIDE].contains(&row.kind) {
+        return;
+    }
+    let pairs = positions_of(row.p, log).flat_map(|x| positions_of(row.q, log).map(move |y| (x, y)));
+    for (limits, are_so) in LIMITS {
+        let so: Vec<(u32, u32)> = pairs.clone().filter(|&(x, y)| are_so(row, log.distance(x, y))).collect();
+        for (place, ..) in PLACES.iter().filter(|(.., is_there)| so.iter().any(|&(x, y)| is_there(log, x, y))) {
+            count(reached, format!("kind {} on {place} with {limits}", row.kind));
+        }
+        if so.iter().any(|(x, y)| x != y) {
+            count(reached, format!("kind {} in {} with {limits}", row.kind, PARTS[usize::from(row.section > 0)]));
+        }
+    }
+}
+
+const PARTS: [&str; 2] = ["the antecedent", "a consequent"];
+
+/// Every limit in every place that can have it, and on two positions in antecedent and consequents.
+fn limits_in_places() -> Vec<String> {
+    let mut wanted = Vec::new();
+    for kind in [WITHIN, OUTSIDE] {
+        for (place, many, _) in PLACES {
+            wanted.extend(LIMITS[..many].iter().map(|(limits, _)| format!("kind {kind} on {place} with {limits}")));
+        }
+        for part in PARTS {
+            wanted.extend(LIMITS.map(|(limits, _)| format!("kind {kind} in {part} with {limits}")));
+        }
+    }
+    wanted
+}
+
+/// Either limit at a distance of two positions, and next to it.
+fn at_limits(kind: u32) -> Vec<String> {
+    let limits = ["d = b", "d = b - 1", "d = a > 0", "d = a + 1"];
+    PARTS.iter().flat_map(|part| limits.map(|limits| format!("kind {kind} in {part} with {limits}"))).collect()
 }
 
 /// A sheet refused with 9 for b, in the kinds that do not use it, and for a set that is empty in both halves.
@@ -115,6 +191,7 @@ fn of_pair(reached: &mut Reached, seed: u64) {
     of_fields(reached, &pair.sheet);
     let (Ok(sheet), Ok(log)) = (&opened.sheet, &opened.log) else { return };
     sheet.rows.iter().for_each(|row| of_row(reached, row));
+    sheet.rows.iter().for_each(|row| of_limits(reached, row, log));
     of_sections_and_positions(reached, sheet, log);
     count(reached, format!("k {}", sheet.k));
     count(reached, format!("{} antecedent points", introduced(&sheet.rows, 0).len()));
@@ -159,6 +236,19 @@ fn the_small_family_has_every_kind() {
         sheet.rows.iter().for_each(|row| of_row(&mut reached, row));
     }
     are_reached(&reached, &[kinds_in(0..=1), kinds_with_ends(), vec!["EVENT with no event".into()]].concat());
+}
+
+/// Document 02, A9: with its logs, either limit at a distance and next to it, and 0 to 0 on one line and on two of one tick.
+#[test]
+fn the_small_family_reaches_the_limits() {
+    let (mut reached, logs) = (Reached::new(), families::logs());
+    for text in families::small().iter().flat_map(|family| &family.sheets) {
+        let sheet = sheet::read(text, Blunder::None).expect("a family's sheet is accepted");
+        let pairs = sheet.rows.iter().flat_map(|row| logs.iter().map(move |log| (row, log)));
+        pairs.for_each(|(row, log)| of_limits(&mut reached, row, log));
+    }
+    are_reached(&reached, &at_limits(WITHIN));
+    are_reached(&reached, &PLACES.map(|(place, ..)| format!("kind {OUTSIDE} on {place} with b = 0")));
 }
 
 #[test]
@@ -214,10 +304,14 @@ fn random_pairs_reach_everything() {
     wanted.extend(["EVENT with no event", "a consequent skipped", "a consequent empty", "positions shared"].map(String::from));
     wanted.extend(["N 0", "holds", "holds by its consequents", "violated"].map(String::from));
     are_reached(&reached, &wanted);
+    for what in limits_in_places() {
+        assert!(reached.get(&what).is_some_and(|&times| times >= OFTEN), "{what}: {:?}", reached.get(&what));
+    }
     let mut told = refusals;
     told.extend(
         ["antecedent matched", "antecedent not matched", "holds by its consequents", "violated", "N 0"].map(String::from),
     );
+    told.extend([WITHIN, OUTSIDE].into_iter().flat_map(at_limits));
     let told: Vec<String> = told.into_iter().map(|what| format!("{what}: {}", reached[&what])).collect();
     writeln!(std::io::stderr(), "of {PAIRS} random pairs: {}", told.join(", ")).unwrap();
 }

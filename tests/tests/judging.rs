@@ -39,9 +39,9 @@ fn no_points_and_no_lines() {
     let empty = log_of(&[]).text();
     assert_eq!(judged(b"  0  0\n", &empty, 0), Judged { answer: 0, met: 1 });
     assert_eq!(judged(b"  0  0\n", &empty, 1), Judged { answer: 34, met: PATTERN });
-    let within = b"  0  1\n  0 10  0 99          1          2\n";
+    let within = b"  0  1\n  0 10  0 99          1          3\n";
     assert_eq!(judged(within, &empty, 0), Judged { answer: 0, met: 0 });
-    assert_eq!(judged(within, b"    0          5          6\n", 0), Judged { answer: 0, met: 1 });
+    assert_eq!(judged(within, b"    0          5          7\n", 0), Judged { answer: 0, met: 1 });
     assert_eq!(judged(within, b"    0          5          8\n", 0), Judged { answer: 0, met: 0 });
 }
 

@@ -1,4 +1,5 @@
-//! Document 02, A1: sheets and logs that were accepted before keep every answer; where EVENT is denied, the written text has the upper half too.
+//! Document 02, A1: sheets and logs that were accepted before keep every answer, A9's WITHIN on both sides; where EVENT is denied, the written text
+//! has the upper half too.
 mod common;
 use common::program::{SHEET, SUPPLIER, SUPPLIER_KEPT, SUPPLIER_LOG};
 use common::{tell, top};
@@ -24,7 +25,7 @@ struct Seen {
     denials_of_event: u64,
 }
 
-/// Document 01 alone.
+/// Document 01 before A1.
 fn before(pair: &Pair) -> Opened {
     let before = open(&pair.sheet, &pair.log, Blunder::BeforeA1);
     assert!(before.sheet.is_ok() && before.log.is_ok(), "accepted before");
@@ -102,7 +103,7 @@ fn a_part_of_the_families_keeps_its_answers() {
 #[test]
 fn examples_keep_their_answers() {
     let file = |name: &str| fs::read(top().join(name)).unwrap();
-    let mut pairs: Vec<Pair> = ["log", "log-kept", "log-injection"]
+    let mut pairs: Vec<Pair> = ["log", "log-kept", "log-fraction", "log-injection"]
         .map(|log| Pair { sheet: file(SHEET), log: file(&format!("examples/lockmass/{log}")) })
         .into();
     pairs.extend([SUPPLIER_LOG, SUPPLIER_KEPT].map(|log| Pair { sheet: file(SUPPLIER), log: file(log) }));

@@ -16,7 +16,7 @@ impl Family {
     }
 }
 
-/// Every log of up to three lines over events 0 and 1 and ticks 0 and 1, closing at the last tick or one later.
+/// Every log of up to three lines over events 0 and 1 and ticks 0 and 2, closing at the last tick or one later.
 pub fn logs() -> Vec<Log> {
     logs_over([0, 1])
 }
@@ -43,7 +43,8 @@ fn logs_over(events: [u32; 2]) -> Vec<Log> {
 
 fn longer(lines: &[Line], events: [u32; 2]) -> Vec<Vec<Line>> {
     let last = lines.last().map_or(0, |line| line.tick);
-    let further = (last..=1).flat_map(|tick| events.map(|event| Line { tick, event }));
+    let ticks = [0, 2].into_iter().filter(|&tick| tick >= last);
+    let further = ticks.flat_map(|tick| events.map(|event| Line { tick, event }));
     further.map(|line| [lines, &[line]].concat()).collect()
 }
 
@@ -51,18 +52,26 @@ fn longer(lines: &[Line], events: [u32; 2]) -> Vec<Vec<Line>> {
 struct Alphabet {
     sets: &'static [u64],
     sets_of_event: &'static [u64],
-    limits: &'static [(u32, u32)],
+    /// WITHIN or OUTSIDE, and its limits; a denial has the other.
+    limits: &'static [(u32, u32, u32)],
 }
 
-/// The distances of the logs are 0, 1 and 2.
-const FEW: Alphabet = Alphabet { sets: &[1], sets_of_event: &[0, 1], limits: &[(1, 1)] };
-const MORE: Alphabet = Alphabet { sets: &[1, 2, 3], sets_of_event: &[0, 1, 2], limits: &[(0, 0), (0, 1), (1, 2)] };
+/// The distances of the logs are 0 to 3: 2 alone is surely within 1 to 3, and only one position within 0 to 0.
+const FEW: Alphabet = Alphabet { sets: &[1], sets_of_event: &[0, 1], limits: &[(WITHIN, 1, 3), (OUTSIDE, 0, 0)] };
+const MORE: Alphabet = Alphabet {
+    sets: &[1, 2, 3],
+    sets_of_event: &[0, 1, 2],
+    limits: &[(WITHIN, 0, 0), (WITHIN, 0, 2), (WITHIN, 1, 3), (OUTSIDE, 0, 0), (OUTSIDE, 0, 1), (OUTSIDE, 2, 4)],
+};
 
 const LOWER: u64 = 1 << 1;
 const UPPER: u64 = 1 << 33;
 /// Sets of events 1 and 33: one of either half, and both.
-const HALVES: Alphabet =
-    Alphabet { sets: &[LOWER, UPPER, LOWER | UPPER], sets_of_event: &[0, LOWER, UPPER, LOWER | UPPER], limits: &[(1, 1)] };
+const HALVES: Alphabet = Alphabet {
+    sets: &[LOWER, UPPER, LOWER | UPPER],
+    sets_of_event: &[0, LOWER, UPPER, LOWER | UPPER],
+    limits: &[(WITHIN, 0, 1), (OUTSIDE, 0, 1)],
+};
 
 fn pairs(points: &[u32]) -> Vec<(u32, u32)> {
     let all = points.iter().flat_map(|&p| points.iter().map(move |&q| (p, q)));
@@ -82,8 +91,7 @@ impl Alphabet {
         }
         for (p, q) in pairs(&[ordinary, &[START, CLOSE]].concat()) {
             rows.extend(self.sets.iter().map(|&set| Row::of_set(section, FREE, p, q, set)));
-            rows.extend(self.limits.iter().map(|&(a, b)| Row::new(section, WITHIN, p, q, a, b)));
-            rows.extend(self.limits.iter().map(|&(a, b)| Row::new(section, OUTSIDE, p, q, a, b)));
+            rows.extend(self.limits.iter().map(|&(kind, a, b)| Row::new(section, kind, p, q, a, b)));
         }
         for &p in ordinary {
             rows.extend(self.sets_of_event.iter().map(|&set| Row::of_set(section, EVENT, p, 0, set)));

@@ -21,6 +21,11 @@ fn step(random: &mut Random, tick: u32) -> u32 {
     tick.saturating_add(further)
 }
 
+/// The last ticks that there are.
+fn latest(random: &mut Random, tick: u32) -> u32 {
+    tick.max(u32::MAX - random.from_to(0, 1))
+}
+
 fn first_tick(random: &mut Random) -> u32 {
     match random.below(10) {
         0..=6 => 0,
@@ -32,7 +37,7 @@ fn first_tick(random: &mut Random) -> u32 {
 
 /// A log of up to so many lines.
 pub fn random(random: &mut Random, most: u32) -> Log {
-    let n = if random.one_in(12) { 0 } else { random.from_to(1, most) };
+    let n = if random.one_in(8) { 0 } else { random.from_to(1, most) };
     of_length(random, n)
 }
 
@@ -50,15 +55,17 @@ pub fn with_rare_events(random: &mut Random, n: u32) -> Log {
     with_events(random, n, &events)
 }
 
+/// Now and then one of the lines comes as late as ticks can tell.
 fn with_events(random: &mut Random, n: u32, events: &[u32]) -> Log {
     let start = first_tick(random);
+    let late = if random.one_in(10) { random.from_to(1, n.max(1)) } else { n + 1 };
     let mut tick = start;
     let mut lines = Vec::new();
-    for _ in 0..n {
-        tick = step(random, tick);
+    for line in 1..=n {
+        tick = if line == late { latest(random, tick) } else { step(random, tick) };
         lines.push(Line { tick, event: random.pick(events) });
     }
-    let close = if random.one_in(9) { u32::MAX } else { step(random, tick) };
+    let close = if random.one_in(9) { latest(random, tick) } else { step(random, tick) };
     Log { start, close, lines, blunder: Blunder::None }
 }
 

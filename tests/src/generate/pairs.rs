@@ -34,14 +34,25 @@ fn is_as_wanted(wanted: Wanted, sheet: &Sheet, log: &Log) -> bool {
     }
 }
 
+/// A random sheet, half of its limits at distances of the log.
+fn sheet_at_limits(random: &mut Random, shape: &sheets::Shape, log: &Log) -> Vec<u8> {
+    let (k, mut rows) = sheets::random_rows(random, shape);
+    for row in rows.iter_mut().filter(|row| [WITHIN, OUTSIDE].contains(&row.kind)) {
+        if random.one_in(2) {
+            (row.a, row.b) = sheets::limits_at(random, log);
+        }
+    }
+    sheet::text(k, &rows)
+}
+
 /// The first of some random sheets that is as wanted, or else the last.
 fn sheet_for(random: &mut Random, shape: &sheets::Shape, wanted: Wanted, log: &Log) -> Vec<u8> {
-    let mut text = sheets::random(random, shape);
+    let mut text = sheet_at_limits(random, shape, log);
     for _ in 0..MOST_TRIES {
         if sheet::read(&text, Blunder::None).is_ok_and(|sheet| is_as_wanted(wanted, &sheet, log)) {
             break;
         }
-        text = sheets::random(random, shape);
+        text = sheet_at_limits(random, shape, log);
     }
     text
 }

@@ -1,6 +1,7 @@
 //! Sheets that are accepted: random ones with every kind in every section that permits it, and those of document 01.
 use crate::generate::logs::EVENTS;
 use crate::random::Random;
+use crate::reference::log::Log;
 use crate::reference::sheet::{self, kind::*, Row, CLOSE, MOST_CONSEQUENT_ROWS, START};
 
 /// How large a random sheet may become.
@@ -125,20 +126,33 @@ fn set(random: &mut Random) -> u64 {
     }
 }
 
+/// Limits about the distances of random logs: the short ones, and those near the longest.
 fn limits(random: &mut Random) -> (u32, u32) {
-    match random.below(10) {
+    match random.below(12) {
         0 => (0, u32::MAX),
-        1 => (random.from_to(0, 3), u32::MAX),
-        2 => (u32::MAX, u32::MAX),
+        1 => (random.from_to(0, 3), u32::MAX - random.from_to(0, 3)),
+        2 => {
+            let low = u32::MAX - random.from_to(0, 4);
+            (low, random.from_to(low, u32::MAX))
+        }
         3 | 4 => {
             let both = random.from_to(0, 4);
             (both, both)
         }
         _ => {
-            let low = random.from_to(0, 4);
-            (low, low + random.from_to(0, 4))
+            let low = random.from_to(0, 3);
+            (low, low + random.from_to(0, 5))
         }
     }
+}
+
+/// Limits at one of a log's distances or next to it, so that a millisecond decides what they say there.
+pub fn limits_at(random: &mut Random, log: &Log) -> (u32, u32) {
+    let [x, y] = [0, 1].map(|_| random.from_to(0, log.n() + 1));
+    let distance = log.distance(x, y);
+    let low = if random.one_in(2) { 0 } else { distance.saturating_sub(random.from_to(0, 2)) };
+    let high = if random.one_in(4) { u32::MAX } else { distance.saturating_add(random.from_to(0, 2)) };
+    (low, high)
 }
 
 /// Two different ones of these points.
@@ -152,15 +166,16 @@ fn with_ends(ordinary: &[u32]) -> Vec<u32> {
     [ordinary, &[START, CLOSE]].concat()
 }
 
-/// A row of kinds 6 to 12 over the ordinary points known.
+/// A row of kinds 6 to 12 over the ordinary points known, most often WITHIN or OUTSIDE.
 fn demanding_row(random: &mut Random, section: u32, ordinary: &[u32]) -> Row {
-    let wanted = random.from_to(BEFORE, EVENT);
+    let wanted = if random.one_in(4) { random.from_to(WITHIN, OUTSIDE) } else { random.from_to(BEFORE, EVENT) };
     let possible = match ordinary.len() {
         0 => wanted.clamp(FREE, OUTSIDE),
         1 => wanted.max(FREE),
         _ => wanted,
     };
-    let any_two = two_of(random, &with_ends(ordinary));
+    let between_lines = ordinary.len() > 1 && random.one_in(2);
+    let any_two = if between_lines { two_of(random, ordinary) } else { two_of(random, &with_ends(ordinary)) };
     match possible {
         BEFORE | APART | SAME => {
             let (p, q) = two_of(random, ordinary);

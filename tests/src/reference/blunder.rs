@@ -29,6 +29,20 @@ pub enum Blunder {
     UpperHalfLost,
     /// A1: wanting b of EVENT to be 0, as before.
     EventWithoutUpperHalf,
-    /// No blunder: document 01 as it was before A1, with events up to 31 and sets of a alone.
+    /// A9: leaving OUTSIDE as it was, so that neither it nor WITHIN is met where the fraction decides.
+    OutsideAsBefore,
+    /// A9: taking equal ticks on different lines for one position.
+    EqualTicksOnePosition,
+    /// A9: d + 1 in 32 bits, so that it is 0 where d is 4,294,967,295.
+    DistanceIn32Bits,
+    /// A9: leaving the antecedent as it was.
+    AntecedentAsBefore,
+    /// A9: leaving the lower limit as it was: d is at least a.
+    LowerLimitPlain,
+    /// A9: d − 1 in 32 bits, so that it is 4,294,967,295 where d is 0.
+    LessThanZero,
+    /// No blunder: document 01 as it was before A1, with events up to 31 and sets of a alone. WITHIN is A9's.
     BeforeA1,
+    /// No blunder: document 01 as it was before A9, with distances taken as exact. Events, sets and N are those of A1 and A4.
+    BeforeA9,
 }

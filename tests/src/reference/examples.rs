@@ -33,7 +33,9 @@ fn logs_of_sheet_s() {
     assert_eq!(late.check(), violated(&[3], &[3]));
     assert_eq!(late.search(2, 2), Ok(Some(vec![3, 1])));
     assert_eq!(late.search(2, 1), Err(Refusal::Places));
-    assert_eq!(pair(&s, &[(100, 2), (300, 3), (600, 3)]).check(), Ok(Verdict::Holds));
+    // Document 02, A9: with 600 it held.
+    assert_eq!(pair(&s, &[(100, 2), (300, 3), (599, 3)]).check(), Ok(Verdict::Holds));
+    assert_eq!(pair(&s, &[(100, 2), (300, 3), (600, 3)]).check(), violated(&[3], &[3]));
     assert_eq!(pair(&s, &[(100, 2), (300, 3), (601, 3)]).check(), violated(&[3], &[3]));
     assert_eq!(pair(&s, &[(10, 3)]).check(), violated(&[1], &[2]));
     let between = pair(&s, &[(100, 2), (200, 1), (300, 3)]);

@@ -38,6 +38,11 @@ impl Log {
         }
     }
 
+    /// The distance of two positions' ticks, without sign.
+    pub fn distance(&self, x: u32, y: u32) -> u32 {
+        self.tick(x).abs_diff(self.tick(y))
+    }
+
     /// The event at a position is in the set; start and close have no event.
     pub fn event_in(&self, position: u32, set: u64) -> bool {
         // No set has event 64, which a blunder lets in.
