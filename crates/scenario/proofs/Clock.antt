@@ -13,7 +13,7 @@ use Rattle.scenario.specs.Clock.{time, Ascending, Fractions, InLimits, S
 use Rattle.scenario.proofs.Base.{both, pair, either, left, right, tell, T-eq, eq→eqb, neqb→neq, Order, lower, level, upper, order}
 
 -- two tests that follow from each other are equal
-same-test : (a b : Bool) → (T a → T b) → (T b → T a) → a ≡ b
+pub same-test : (a b : Bool) → (T a → T b) → (T b → T a) → a ≡ b
 same-test true true f g = refl
 same-test true false f g = absurd (f tt)
 same-test false true f g = absurd (g tt)
@@ -295,39 +295,40 @@ module _ (log : Log) (x y lo hi : ℕ) where
           plain-put (omega (arith, none)) (omega (arith, ap (tick log) e))
       go (upper l) = apart (λ e. omega arith)
 
-  -- and what is met no longer stands on two positions, at a limit itself
-  pub no-longer : lo ≤ hi → (T (plainAt log x y lo hi) × T (not (nearAt log x y lo hi))) ↔ AtLimit log x y lo hi
-  no-longer h = (λ t. there (t .0) (t .1) (order x y), λ A. (was A, not-T (nearAt log x y lo hi) (undone A)))
+  -- what is met no longer stands on two positions, at a limit itself
+  pub at-limit : T (plainAt log x y lo hi) → T (not (nearAt log x y lo hi)) → AtLimit log x y lo hi
+  at-limit p n = go (order x y)
     where
       d : ℕ
       d = gap (tick log x) (tick log y)
 
-      here : T (plainAt log x y lo hi) → T (not (nearAt log x y lo hi)) → (x ≡ y → ⊥) → AtLimit log x y lo hi
-      here p n two = record { two = two; at = go (order d hi) (order lo d) (order lo 0) }
+      two : (x ≡ y → ⊥) → AtLimit log x y lo hi
+      two apart = record { two = apart; at = by (order d hi) (order lo d) (order lo 0) }
         where
           between : d + 1 ≤ hi → lo ≤ d - 1 → ⊥
-          between i j = T-not (nearAt log x y lo hi) n (T-eq (sym (near-apart log x y lo hi two)) (sure-put lo hi d i j))
+          between i j = T-not (nearAt log x y lo hi) n (T-eq (sym (near-apart log x y lo hi apart)) (sure-put lo hi d i j))
 
-          go : Order d hi → Order lo d → Order lo 0 → (d ≡ hi) ⊎ ((d ≡ lo) × (0 < lo))
-          go (level e) o z = inl e
-          go (upper l) o z = absurd (omega (arith, plain-get p .1))
-          go (lower l) (lower m) z = absurd (between (omega arith) (omega arith))
-          go (lower l) (level e) (lower i) = absurd (omega arith)
-          go (lower l) (level e) (level i) = absurd (between (omega arith) (omega arith))
-          go (lower l) (level e) (upper i) = inr (sym e, i)
-          go (lower l) (upper m) z = absurd (omega (arith, plain-get p .0))
+          by : Order d hi → Order lo d → Order lo 0 → (d ≡ hi) ⊎ ((d ≡ lo) × (0 < lo))
+          by (level e) o z = inl e
+          by (upper l) o z = absurd (omega (arith, plain-get p .1))
+          by (lower l) (lower m) z = absurd (between (omega arith) (omega arith))
+          by (lower l) (level e) (lower i) = absurd (omega arith)
+          by (lower l) (level e) (level i) = absurd (between (omega arith) (omega arith))
+          by (lower l) (level e) (upper i) = inr (sym e, i)
+          by (lower l) (upper m) z = absurd (omega (arith, plain-get p .0))
 
-      there : T (plainAt log x y lo hi) → T (not (nearAt log x y lo hi)) → Order x y → AtLimit log x y lo hi
-      there p n (lower l) = here p n (λ e. omega arith)
-      there p n (level e) =
+      go : Order x y → AtLimit log x y lo hi
+      go (lower l) = two (λ e. omega arith)
+      go (level e) =
           absurd (T-not (nearAt log x y lo hi) n (T-eq (sym (near-level log x y lo hi e))
           (pair (leb lo 0) (leb 0 hi) (le→leb lo 0 (omega (arith, plain-get p .0, ap (tick log) e))) (le→leb 0 hi (omega arith)))))
-      there p n (upper l) = here p n (λ e. omega arith)
+      go (upper l) = two (λ e. omega arith)
 
-      was : AtLimit log x y lo hi → T (plainAt log x y lo hi)
-      was A = ⊎-elim (λ e. plain-put (omega (arith, e)) (omega (arith, e))) (λ e. plain-put (omega (arith, e .0)) (omega (arith, e .0))) (A .at)
-
-      undone : AtLimit log x y lo hi → T (nearAt log x y lo hi) → ⊥
-      undone A t =
-          let s = sure-get lo hi d (T-eq (near-apart log x y lo hi (A .two)) t) in
+  -- and there it was met, and is no longer
+  pub no-longer : lo ≤ hi → AtLimit log x y lo hi → T (plainAt log x y lo hi) × T (not (nearAt log x y lo hi))
+  no-longer h A = (⊎-elim (λ e. plain-put (omega (arith, e)) (omega (arith, e))) (λ e. plain-put (omega (arith, e .0)) (omega (arith, e .0))) (A .at), not-T (nearAt log x y lo hi) undone)
+    where
+      undone : T (nearAt log x y lo hi) → ⊥
+      undone t =
+          let s = sure-get lo hi (gap (tick log x) (tick log y)) (T-eq (near-apart log x y lo hi (A .two)) t) in
           ⊎-elim (λ e. omega (arith, e, s .0)) (λ e. omega (arith, e .0, e .1, s .1)) (A .at)

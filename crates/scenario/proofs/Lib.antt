@@ -22,6 +22,7 @@ pub mod Reading
 pub mod Final
 -- What stands beside: what the clock drops, denials, patterns, at most one extension, a search's steps, rows and numbers, old sheets, and the paper's examples.
 pub mod Clock
+pub mod Unmoved
 pub mod Closure
 pub mod InOrder
 pub mod Patterns

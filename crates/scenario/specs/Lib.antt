@@ -1,7 +1,6 @@
 -- What document 01's terms mean, in the order in which to read them beside it.
 pub mod Rows
 pub mod Log
-pub mod Clock
 pub mod Denials
 pub mod DenialsInOrder
 pub mod Sheet
@@ -9,4 +8,5 @@ pub mod Fields
 pub mod Walk
 pub mod Search
 pub mod Reading
+pub mod Clock
 pub mod Before

@@ -1,6 +1,7 @@
 pub mod Demands
 pub mod DemandThree
 pub mod Before
+pub mod Unmoved
 pub mod Showing
 pub mod Bound
 pub mod Printing

@@ -1,5 +1,6 @@
 pub mod Check
 pub mod Before
+pub mod Unmoved
 pub mod Demands
 pub mod Showing
 pub mod Printing
