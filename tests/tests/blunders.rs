@@ -43,7 +43,7 @@ const AGAINST_DEMAND_3: [Blunder; 5] =
     [Blunder::ReverseOnly, Blunder::DifferentLines, Blunder::EndsBetween, Blunder::BringsAll, Blunder::NoneWithoutConsequents];
 /// Document 02, A1: the slips that do.
 const IN_HALVES: [Blunder; 2] = [Blunder::EventDeniedBelow32, Blunder::UpperHalfLost];
-/// Document 02, A9: the slips that short distances show; the first of them does.
+/// Document 02, A9: the slips that short distances show; the first of them breaks demand 3 too.
 const AT_LIMITS: [Blunder; 6] = [
     Blunder::OutsideAsBefore,
     Blunder::EqualTicksOnePosition,
