@@ -30,27 +30,36 @@ sure-get lo hi d t = let b = both (leb (d + 1) hi) (leb lo (d - 1)) t in (leb→
 gap-swap : (s t : ℕ) → gap s t ≡ gap t s
 gap-swap s t = omega arith
 
+-- What is met on one position, and on two
 module _ (log : Log) (x y lo hi : ℕ) where
-  -- on one position and on two
   near-level : x ≡ y → nearAt log x y lo hi ≡ (leb lo 0 && leb 0 hi)
   unfolding nearAt
   near-level e = rw (eq-eqb x y e)
+
+  level-get : x ≡ y → T (nearAt log x y lo hi) → lo ≤ 0
+  level-get e t = leb→le lo 0 (both (leb lo 0) (leb 0 hi) (T-eq (near-level e) t) .0)
+
+  level-put : x ≡ y → lo ≤ 0 → T (nearAt log x y lo hi)
+  level-put e h = T-eq (sym (near-level e)) (pair (leb lo 0) (leb 0 hi) (le→leb lo 0 h) (le→leb 0 hi (omega arith)))
 
   pub near-apart : (x ≡ y → ⊥) → nearAt log x y lo hi ≡ sure lo hi (gap (tick log x) (tick log y))
   unfolding nearAt
   near-apart n = rw (ne-eqb x y n)
 
+  apart-get : (x ≡ y → ⊥) → T (nearAt log x y lo hi) → (gap (tick log x) (tick log y) + 1 ≤ hi) × (lo ≤ gap (tick log x) (tick log y) - 1)
+  apart-get n t = sure-get lo hi (gap (tick log x) (tick log y)) (T-eq (near-apart n) t)
+
+  apart-put : (x ≡ y → ⊥) → gap (tick log x) (tick log y) + 1 ≤ hi → lo ≤ gap (tick log x) (tick log y) - 1 → T (nearAt log x y lo hi)
+  apart-put n h l = T-eq (sym (near-apart n)) (sure-put lo hi (gap (tick log x) (tick log y)) h l)
+
 -- How code says it: without d + 1, which the bits of a tick need not hold.
 
 -- "Points on one position have distance exactly 0": the limits are kept when the lower is 0.
 pub near-one : (log : Log) (x lo hi : ℕ) → nearAt log x x lo hi ≡ eqb lo 0
-near-one log x lo hi = near-level log x x lo hi refl ∙ same-test (leb lo 0 && leb 0 hi) (eqb lo 0) there back
-  where
-    there : T (leb lo 0 && leb 0 hi) → T (eqb lo 0)
-    there t = eq→eqb lo 0 (omega (arith, leb→le lo 0 (both (leb lo 0) (leb 0 hi) t .0)))
-
-    back : T (eqb lo 0) → T (leb lo 0 && leb 0 hi)
-    back t = pair (leb lo 0) (leb 0 hi) (le→leb lo 0 (omega (arith, eqb→eq lo 0 t))) (le→leb 0 hi (omega arith))
+near-one log x lo hi =
+    same-test (nearAt log x x lo hi) (eqb lo 0)
+    (λ t. eq→eqb lo 0 (omega (arith, level-get log x x lo hi refl t)))
+    (λ t. level-put log x x lo hi refl (omega (arith, eqb→eq lo 0 t)))
 
 -- d < b and (a = 0 or a < d)
 pub without-overflow : (lo hi d : ℕ) → sure lo hi d ≡ (ltb d hi && (eqb lo 0 || ltb lo d))
@@ -243,18 +252,15 @@ module _ (u : ℕ) (two : 2 ≤ u) (log : Log) (rises : Ascending (tick log)) wh
   pub within-surely : (x y lo hi : ℕ) → T (nearAt log x y lo hi) ↔ Surely u log x y lo hi
   within-surely x y lo hi = (there (order x y), back (order x y))
     where
-      ends : (e : x ≡ y) → T (nearAt log x y lo hi) → lo ≤ 0
-      ends e t = leb→le lo 0 (both (leb lo 0) (leb 0 hi) (T-eq (near-level log x y lo hi e) t) .0)
-
       apart : (x ≡ y → ⊥) → T (nearAt log x y lo hi) → Surely u log x y lo hi
       apart n t f F =
-          let s = sure-get lo hi (gap (tick log x) (tick log y)) (T-eq (near-apart log x y lo hi n) t) in
+          let s = apart-get log x y lo hi n t in
           kept-either u (tick log x) (tick log y) (f x) (f y) lo hi (F .below x) (F .below y) (s .0) (s .1)
 
       there : Order x y → T (nearAt log x y lo hi) → Surely u log x y lo hi
       there (lower l) t = apart (λ e. omega arith) t
       there (level e) t = λ f F. subst (λ (z : ℕ). InLimits u lo hi (gap (time u log f x) (time u log f z))) e
-          (record { least = omega (arith, times-none u lo (ends e t)); most = omega arith })
+          (record { least = omega (arith, times-none u lo (level-get log x y lo hi e t)); most = omega arith })
       there (upper l) t = apart (λ e. omega arith) t
 
       back : Order x y → Surely u log x y lo hi → T (nearAt log x y lo hi)
@@ -262,7 +268,7 @@ module _ (u : ℕ) (two : 2 ≤ u) (log : Log) (rises : Ascending (tick log)) wh
       back (level e) S =
           let kept = S (late-after u x) (after-fits x) .least in
           let none = least-level lo hi (time u log (late-after u x) x) (subst (λ (z : ℕ). u * lo ≤ gap (time u log (late-after u x) x) (time u log (late-after u x) z)) (sym e) kept) in
-          T-eq (sym (near-level log x y lo hi e)) (pair (leb lo 0) (leb 0 hi) (le→leb lo 0 none) (le→leb 0 hi (omega arith)))
+          level-put log x y lo hi e none
       back (upper l) S =
           T-eq (ap (sure lo hi) (gap-swap (tick log y) (tick log x)) ∙ sym (near-apart log x y lo hi (λ e. omega arith)))
           (surely-up lo hi y x l (surely-swap lo hi x y S))
@@ -285,15 +291,13 @@ module _ (log : Log) (x y lo hi : ℕ) where
   pub near-was-plain : T (nearAt log x y lo hi) → T (plainAt log x y lo hi)
   near-was-plain t = go (order x y)
     where
-      apart : (x ≡ y → ⊥) → T (plainAt log x y lo hi)
-      apart n = let s = sure-get lo hi (gap (tick log x) (tick log y)) (T-eq (near-apart log x y lo hi n) t) in plain-put (omega (arith, s .1)) (omega (arith, s .0))
+      two : (x ≡ y → ⊥) → T (plainAt log x y lo hi)
+      two n = let s = apart-get log x y lo hi n t in plain-put (omega (arith, s .1)) (omega (arith, s .0))
 
       go : Order x y → T (plainAt log x y lo hi)
-      go (lower l) = apart (λ e. omega arith)
-      go (level e) =
-          let none = leb→le lo 0 (both (leb lo 0) (leb 0 hi) (T-eq (near-level log x y lo hi e) t) .0) in
-          plain-put (omega (arith, none)) (omega (arith, ap (tick log) e))
-      go (upper l) = apart (λ e. omega arith)
+      go (lower l) = two (λ e. omega arith)
+      go (level e) = plain-put (omega (arith, level-get log x y lo hi e t)) (omega (arith, ap (tick log) e))
+      go (upper l) = two (λ e. omega arith)
 
   -- what is met no longer stands on two positions, at a limit itself
   pub at-limit : T (plainAt log x y lo hi) → T (not (nearAt log x y lo hi)) → AtLimit log x y lo hi
@@ -306,7 +310,7 @@ module _ (log : Log) (x y lo hi : ℕ) where
       two apart = record { two = apart; at = by (order d hi) (order lo d) (order lo 0) }
         where
           between : d + 1 ≤ hi → lo ≤ d - 1 → ⊥
-          between i j = T-not (nearAt log x y lo hi) n (T-eq (sym (near-apart log x y lo hi apart)) (sure-put lo hi d i j))
+          between i j = T-not (nearAt log x y lo hi) n (apart-put log x y lo hi apart i j)
 
           by : Order d hi → Order lo d → Order lo 0 → (d ≡ hi) ⊎ ((d ≡ lo) × (0 < lo))
           by (level e) o z = inl e
@@ -319,9 +323,7 @@ module _ (log : Log) (x y lo hi : ℕ) where
 
       go : Order x y → AtLimit log x y lo hi
       go (lower l) = two (λ e. omega arith)
-      go (level e) =
-          absurd (T-not (nearAt log x y lo hi) n (T-eq (sym (near-level log x y lo hi e))
-          (pair (leb lo 0) (leb 0 hi) (le→leb lo 0 (omega (arith, plain-get p .0, ap (tick log) e))) (le→leb 0 hi (omega arith)))))
+      go (level e) = absurd (T-not (nearAt log x y lo hi) n (level-put log x y lo hi e (omega (arith, plain-get p .0, ap (tick log) e))))
       go (upper l) = two (λ e. omega arith)
 
   -- and there it was met, and is no longer
@@ -330,5 +332,5 @@ module _ (log : Log) (x y lo hi : ℕ) where
     where
       undone : T (nearAt log x y lo hi) → ⊥
       undone t =
-          let s = sure-get lo hi (gap (tick log x) (tick log y)) (T-eq (near-apart log x y lo hi (A .two)) t) in
+          let s = apart-get log x y lo hi (A .two) t in
           ⊎-elim (λ e. omega (arith, e, s .0)) (λ e. omega (arith, e .0, e .1, s .1)) (A .at)

@@ -1,5 +1,6 @@
--- Where no two positions of a log are at a limit of the sheet, A9 changes nothing: the check's placement and the rows at fault are those of document 01's limits.
--- Carried by `near-unmoved`; the positions that a check looks at are 0 to n + 1.
+-- Where no two positions of a log are at a limit of the sheet, A9 changes nothing: what the check finds, the rows at fault, and each antiscenario's matchings and search
+-- are those of document 01's limits.
+-- Carried by `near-unmoved`: all that is looked at are the positions 0 to n + 1.
 -- Assumes nothing.
 use mathlib.Core.Path.{_≡_, refl, _∙_, ap, ap₂, subst}
 use mathlib.Core.Logic.{⊎-elim}
