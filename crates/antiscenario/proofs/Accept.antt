@@ -1,6 +1,6 @@
--- An accepted sheet's lines are fair, so that what is built from its memory is the antiscenario.
+-- The lines of a sheet in memory are fair, so that what is built from them is the antiscenario.
 -- Assumes nothing.
-use mathlib.Core.Path.{_≡_, sym, ap, _∙_, subst}
+use mathlib.Core.Path.{_≡_, sym, _∙_, subst}
 use mathlib.Core.List.{List, [], _∷_, map}
 use Prim.Native.Nat.{ℕ, zero, suc, _+_, _-_, _≤_, _<_}
 use native.Mathlib.Omega.{arith}
@@ -10,14 +10,17 @@ use Rattle.scenario.specs.Fields.{Fields, fields, five, decode, rowOf, Tagged, 
 use Rattle.scenario.specs.Sheet.{Sheet}
 use Rattle.scenario.specs.Reading.{All, SheetRead, RowsRead, SectionsRead}
 use Rattle.scenario.proofs.Base.{all-append, all-map, Order, lower, level, upper, order}
-use Rattle.sheet.specs.declared.Line.{Line}
-use Rattle.sheet.specs.Reading.{rowIn, sheetOf, taken, answer}
-use Rattle.sheet.specs.Memory.{lay, lineIn, linesIn}
+use Rattle.row.specs.declared.Line.{Line}
+use Rattle.row.specs.Row.{rowIn}
+use Rattle.row.specs.Memory.{lineIn, linesIn, rowAt, tagsOf}
+use Rattle.row.proofs.Memory.{listed-lines}
 use Rattle.scenario.proofs.Numbers.{any-kind}
-use Rattle.sheet.proofs.Theorems.{AcceptedSheet, accepted-sheet, tag}
+use Rattle.sheet.specs.declared.Answer.{Answer}
+use Rattle.sheet.specs.Held.{sheetAt, SheetLoaded}
 use Rattle.sheet.specs.Text.{numbersOf}
-use Rattle.antiscenario.specs.Build.{built}
-use Rattle.antiscenario.proofs.Choice.{Fair, built-is}
+use Rattle.sheet.proofs.Theorems.{tag}
+use Rattle.denial.specs.Build.{built}
+use Rattle.denial.proofs.Choice.{Fair, built-is}
 
 -- kinds are 1 to 12
 abbrev Kind : ℕ → Type 0
@@ -123,26 +126,23 @@ six-lines : (ls : List Line) → All Six (map tag ls) → All (λ (l : Line). l 
 six-lines [] A = tt
 six-lines (l ∷ ls) A = (A .0, six-lines ls (A .1))
 
--- THE THEOREM, of an accepted sheet in memory
-module _ (s : List ℕ) (e : answer s .refusal ≡ 0) (m₀ : List ℕ) (room : 1056 ≤ length m₀) where
-  S : AcceptedSheet s (sheetOf (answer s .k) (taken s .lines)) (taken s .lines)
-  S = accepted-sheet s e
+-- THE THEOREM, of a sheet in memory as reading leaves it
+module _ (rows : List ℕ) (read : Answer) (L : SheetLoaded rows read) where
+  abbrev sheet : Sheet
+  sheet = sheetAt rows (read .rows) (read .k)
 
-  abbrev memory : List ℕ
-  memory = lay 0 (taken s .lines) m₀
+  abbrev lines : List Line
+  lines = linesIn rows 0 (read .rows)
 
-  pub lines-are : linesIn memory 0 (answer s .rows) ≡ taken s .lines
-  lines-are = S .memory m₀ room
+  tags-are : tagged 0 (sheet .antecedent ∷ sheet .consequents) ≡ map tag lines
+  unfolding tagsOf rowAt lineIn
+  tags-are = sym (L .held .tags) ∙ listed-lines tag rows (read .rows) 0
 
-  pub all-fair : All Fair (taken s .lines)
-  all-fair = fair-lines (taken s .lines) (S .numbers) (untag (taken s .lines) (subst (All Low) (S .rows) (sheet-low (sheetOf (answer s .k) (taken s .lines)) (S .read))))
+  pub all-fair : All Fair lines
+  all-fair = fair-lines lines (L .numbers) (untag lines (subst (All Low) tags-are (sheet-low sheet (L .held .read))))
 
-  pub all-six : All (λ (l : Line). l .section ≤ 6) (taken s .lines)
-  all-six =
-      let sh = sheetOf (answer s .k) (taken s .lines) in
-      six-lines (taken s .lines) (subst (All Six) (S .rows) (six-sections 0 (sh .antecedent ∷ sh .consequents) (omega (arith, S .read .count))))
+  pub all-six : All (λ (l : Line). l .section ≤ 6) lines
+  all-six = six-lines lines (subst (All Six) tags-are (six-sections 0 (sheet .antecedent ∷ sheet .consequents) (omega (arith, L .held .read .count))))
 
-  pub built-written : (number : ℕ) → built memory (answer s .rows) (answer s .k) (number - 1) ≡ map numbersOf (written (sheetOf (answer s .k) (taken s .lines)) number)
-  built-written number =
-      built-is memory (answer s .rows) (λ i h. at-line Fair memory (answer s .rows) 0 (subst (All Fair) (sym lines-are) all-fair) i (omega arith) (omega arith)) (answer s .k) number
-      ∙ ap (λ (ls : List Line). map numbersOf (written (sheetOf (answer s .k) ls) number)) lines-are
+  pub built-written : (number : ℕ) → built rows (read .rows) (read .k) (number - 1) ≡ map numbersOf (written sheet number)
+  built-written = built-is rows (read .rows) (λ i h. at-line Fair rows (read .rows) 0 all-fair i (omega arith) (omega arith)) (read .k)

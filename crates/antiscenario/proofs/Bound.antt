@@ -9,9 +9,11 @@ use lib.ListN.{length, getD, length-append, replicate}
 use lib.Dec.{eqb, leb, ltb}
 use borrow.Author.Tests.{eq-eqb, ne-eqb, ltb-true}
 use Rattle.scenario.proofs.Base.{Order, lower, level, upper, order}
-use Rattle.sheet.specs.Memory.{lineIn, linesIn, weighLine, product}
-use Rattle.antiscenario.specs.Build.{uses, marked, wanted, brought, own, denied, denialFrom, chosenFrom, ofSection, built, farOf}
-use Rattle.antiscenario.proofs.Steps.{own-short, counts}
+use Rattle.row.specs.Memory.{lineIn, linesIn}
+use Rattle.sheet.specs.Count.{weighLine, product}
+use Rattle.introduction.specs.Bringing.{uses, marked, wanted, brought}
+use Rattle.denial.specs.Build.{own, denied, denialFrom, chosenFrom, ofSection, built, farOf}
+use Rattle.denial.proofs.Building.{own-short, counts}
 
 -- how many of the first i rows are of section s
 unfoldable tally : (m : List ℕ) (s i : ℕ) → ℕ

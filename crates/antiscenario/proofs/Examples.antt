@@ -11,13 +11,14 @@ use Rattle.scenario.specs.Rows.{set-of, lower-half, upper-half, complement, mee
 use Rattle.scenario.specs.Fields.{fields, decode, tagged, written}
 use Rattle.scenario.specs.Sheet.{lookup, env, all, flat, is-line, matching, count, total, choices, choose, chosen, antiscenario}
 use Rattle.scenario.specs.Log.{inSet, hasAt, tick, sure, nearAt}
-use Rattle.sheet.specs.declared.Line.{Line}
-use Rattle.sheet.specs.Row.{six, lineOf, refusal, sectionFits, refusalWithin, originFits, kindFits, pFits, isDue, ordinary, known, qFits, knownBut, ordinaryBut, bothOrdinary, restFits, setOnly, bothZero, roomFits, enter, advance}
-use Rattle.sheet.specs.Reading.{answer, taken, closing, headOf, rowsFrom, rowBytes, after, sheetOf, section, sections, rowIn}
+use Rattle.row.specs.declared.Line.{Line}
+use Rattle.row.specs.Row.{six, lineOf, rowIn}
+use Rattle.rules.specs.Rules.{refusal, sectionFits, refusalWithin, originFits, kindFits, pFits, isDue, ordinary, known, qFits, knownBut, ordinaryBut, bothOrdinary, restFits, setOnly, bothZero, roomFits, enter, advance}
+use Rattle.sheet.specs.Reading.{answer, taken, closing, headOf, rowsFrom, rowBytes, after, sheetOf, section, sections}
 use Rattle.sheet.specs.Text.{sheetText, headText, rowsText, rowText, numbersOf}
 use Rattle.runlog.specs.Log.{answer as log-answer, taken as log-taken, closing as log-closing, headOf as log-head, linesFrom, lineBytes, lineOf as log-line, logOf}
 use Rattle.antiscenario.specs.declared.Judged.{Judged}
-use Rattle.antiscenario.specs.Build.{lineFrom}
+use Rattle.denial.specs.Build.{lineFrom}
 use Rattle.antiscenario.specs.Write.{writtenLines, writtenText}
 use Rattle.antiscenario.specs.Judge.{refusalOf, judgeOf}
 

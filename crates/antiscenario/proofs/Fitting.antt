@@ -5,26 +5,27 @@ use mathlib.Core.Bool.{Bool, true, false, cond}
 use mathlib.Core.List.{List, [], _∷_, _++_, map}
 use Prim.Native.Nat.{ℕ, zero, suc, _+_, _*_, _-_, _/_, _%_, _≤_, _<_}
 use native.Mathlib.Omega.{arith}
-use lib.ListN.{length, getD, replicate}
+use lib.ListN.{getD, replicate}
 use lib.Dec.{eqb, ltb}
 use Rattle.columns.specs.Number.{largest}
 use Rattle.columns.specs.Spell.{fitsIn}
 use Rattle.columns.proofs.Fits.{parts-fit}
 use Rattle.scenario.specs.Rows.{Row, point, next, last, earlier, later, before, apart, same, free, within, outside, event, upper-half, denying-rows, denying-free, End, start, close, inner, end, far-end, complement}
-use Rattle.scenario.specs.Fields.{Fields, fields}
+use Rattle.scenario.specs.Fields.{Fields, fields, written}
 use Rattle.scenario.specs.Reading.{All, IsEvents}
 use Rattle.scenario.proofs.Base.{all-append}
 use Rattle.scenario.proofs.Halves.{lower-half-fits, upper-half-fits, complement-events}
-use Rattle.sheet.specs.declared.Line.{Line}
-use Rattle.sheet.specs.Row.{refusal}
-use Rattle.sheet.specs.Reading.{rowIn, taken, answer}
-use Rattle.sheet.specs.Memory.{lay, lineIn, linesIn, weighLine, product}
+use Rattle.row.specs.declared.Line.{Line}
+use Rattle.row.specs.Row.{rowIn}
+use Rattle.row.specs.Memory.{lineIn, linesIn}
+use Rattle.sheet.specs.declared.Answer.{Answer}
+use Rattle.sheet.specs.Held.{sheetAt, SheetLoaded}
+use Rattle.sheet.specs.Count.{weighLine, product}
 use Rattle.sheet.specs.Text.{Fits, numbersOf}
-use Rattle.sheet.proofs.Theorems.{accepted-rows}
-use Rattle.antiscenario.specs.Build.{lineFrom, uses, marked, wanted, brought, own, denied, denialFrom, chosenFrom, ofSection, built, farOf}
-use Rattle.antiscenario.specs.Write.{writtenLines}
-use Rattle.antiscenario.proofs.Choice.{Fair}
-use Rattle.antiscenario.proofs.Accept.{at-line, lines-are, all-fair, all-six, built-written}
+use Rattle.denial.specs.Build.{lineFrom, own, denied, denialFrom, chosenFrom, ofSection, built, farOf}
+use Rattle.introduction.specs.Bringing.{uses, marked, wanted, brought}
+use Rattle.denial.proofs.Choice.{Fair}
+use Rattle.antiscenario.proofs.Accept.{at-line, all-fair, all-six, built-written}
 
 -- The widths of a sheet's columns
 
@@ -166,13 +167,10 @@ plain-lines : (ls : List Line) → All Fits ls → All Fair ls → All (λ (l : 
 plain-lines [] F G S = tt
 plain-lines (l ∷ ls) F G S = (record { fits = F .0; fair = G .0; section = S .0 }, plain-lines ls (F .1) (G .1) (S .1))
 
--- THE THEOREM, of an accepted sheet: every number of every antiscenario's rows has a spelling in its columns.
-module _ (s : List ℕ) (e : answer s .refusal ≡ 0) (m₀ : List ℕ) (room : 1056 ≤ length m₀) where
-  all-plain : (i : ℕ) → i < answer s .rows → Plain (lineIn (lay 0 (taken s .lines) m₀) i)
-  all-plain i h =
-      at-line Plain (lay 0 (taken s .lines) m₀) (answer s .rows) 0
-      (subst (All Plain) (sym (lines-are s e m₀ room)) (plain-lines (taken s .lines) (accepted-rows s e .columns) (all-fair s e m₀ room) (all-six s e m₀ room))) i (omega arith) (omega arith)
+-- THE THEOREM, of a sheet in memory: every number of every antiscenario's rows has a spelling in its columns.
+module _ (rows : List ℕ) (read : Answer) (L : SheetLoaded rows read) where
+  all-plain : (i : ℕ) → i < read .rows → Plain (lineIn rows i)
+  all-plain i h = at-line Plain rows (read .rows) 0 (plain-lines (linesIn rows 0 (read .rows)) (L .columns) (all-fair rows read L) (all-six rows read L)) i (omega arith) (omega arith)
 
-  pub written-fits : (m : ℕ) → All Fits (writtenLines s m)
-  unfolding writtenLines
-  written-fits m = subst (All Fits) (built-written s e m₀ room m) (built-fits (lay 0 (taken s .lines) m₀) (answer s .rows) all-plain (answer s .k) (m - 1))
+  pub written-fits : (number : ℕ) → All Fits (map numbersOf (written (sheetAt rows (read .rows) (read .k)) number))
+  written-fits number = subst (All Fits) (built-written rows read L number) (built-fits rows (read .rows) all-plain (read .k) (number - 1))

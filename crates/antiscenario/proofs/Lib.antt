@@ -1,7 +1,3 @@
-pub mod Laws
-pub mod Own
-pub mod Steps
-pub mod Choice
 pub mod Accept
 pub mod Bound
 pub mod Ink

@@ -2,7 +2,7 @@
 -- Assumes nothing.
 use mathlib.Core.Path.{_≡_, sym, ap, ap₂, _∙_, subst}
 use mathlib.Core.List.{List, [], _∷_, _++_, append-assoc}
-use Prim.Native.Nat.{ℕ, suc, _+_, _*_, _-_, _<_}
+use Prim.Native.Nat.{ℕ, suc, _+_, _*_, _<_}
 use native.Mathlib.Omega.{arith}
 use lib.ListN.{length, drop, getD, length-append, drop-of-length-le}
 use lib.Seq.{getD-drop}
@@ -11,8 +11,8 @@ use Rattle.columns.specs.Spell.{spell}
 use Rattle.columns.proofs.Spelling.{spell-read}
 use Rattle.columns.proofs.Lines.{past}
 use Rattle.scenario.specs.Reading.{All}
-use Rattle.sheet.specs.declared.Line.{Line}
-use Rattle.sheet.specs.Row.{lineOf}
+use Rattle.row.specs.declared.Line.{Line}
+use Rattle.row.specs.Row.{lineOf}
 use Rattle.sheet.specs.Reading.{rowBytes}
 use Rattle.sheet.specs.Text.{Fits, rowText, rowsText, headText, sheetText}
 use Rattle.sheet.proofs.Loop.{row-length}

@@ -1,5 +1,5 @@
 pub mod Numbers
-pub mod Build
+pub mod Held
 pub mod Write
 pub mod Plain
 pub mod Judge

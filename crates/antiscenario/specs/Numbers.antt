@@ -1,10 +1,16 @@
 -- Document 01's numbers for antiscenarios: the refusals of writing and judging that are not the sheet's or the log's. What must be believed.
 -- Assumes nothing.
+use mathlib.Core.Bool.{cond, not, _&&_}
 use Prim.Native.Nat.{ℕ}
+use lib.Dec.{leb}
 
 -- 31 m not in 1 to N
 abbrev pub no-such-number : ℕ
 no-such-number = 31
+
+-- the refusal of a number where there are so many antiscenarios, or 0
+abbrev pub numberRefusal : (count number : ℕ) → ℕ
+numberRefusal count number = cond (not (leb 1 number && leb number count)) no-such-number 0
 
 -- 32 buffer too short
 abbrev pub buffer-too-short : ℕ

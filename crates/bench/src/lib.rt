@@ -11,7 +11,7 @@ ghost use Rattle.antiscenario.specs.Judge.{judgeOf};
 ghost use Rattle.antiscenario.specs.Write.{writeOf, afterWrite};
 ghost use Rattle.search.specs.Searching.{searchOf};
 ghost use Rattle.verdict.specs.Check.{checkOf};
-ghost use Rattle.verdict.specs.Showing.{partOf, shownLine};
+ghost use Rattle.line.specs.Showing.{partOf, shownLine};
 ghost use Rattle.bench.specs.Host.{hostNumber, unlessRefused, whenViolated, fronted, fieldNumber, fieldValue, entryNumber};
 
 const VIOLATED: u32 = 100;
@@ -178,7 +178,7 @@ pub extern "C" fn satskhubo_show(
     ensures offset { λ _. ⌜ now (offset .exit) ≡ partOf (now (sheet .entry)) (now (log .entry)) .from ⌝ }
     ensures size { λ _. ⌜ now (size .exit) ≡ partOf (now (sheet .entry)) (now (log .entry)) .to - partOf (now (sheet .entry)) (now (log .entry)) .from ⌝ }
 {
-    let part = verdict::shown_part(sheet, log);
+    let part = line::shown_part(sheet, log);
     *within = part.log;
     *offset = part.from;
     *size = part.to - part.from;
@@ -210,8 +210,8 @@ pub extern "C" fn satskhubo_line<'a>(
     ensures line { λ _. ⌜ now (line .exit) ≡ fronted (length (shownLine (now (sheet .entry)) (now (log .entry)))) (shownLine (now (sheet .entry)) (now (log .entry))) (now (line .entry)) ⌝ }
     ensures size { λ _. ⌜ now (size .exit) ≡ length (shownLine (now (sheet .entry)) (now (log .entry))) ⌝ }
 {
-    let part = verdict::shown_part(sheet, log);
-    let shown = verdict::show_line(sheet, log);
+    let part = line::shown_part(sheet, log);
+    let shown = line::show_line(sheet, log);
     copy_line(shown, line);
     *size = shown.len();
     part.refusal

@@ -7,3 +7,4 @@ pub mod Ink
 pub mod Entering
 pub mod Fields
 pub mod Lines
+pub mod Inked

@@ -1,3 +1,4 @@
 pub mod Number
 pub mod Spell
 pub mod Entry
+pub mod Ink

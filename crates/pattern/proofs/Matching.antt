@@ -18,33 +18,33 @@ use Rattle.scenario.proofs.Rules.{Fixed, meets-same}
 use Rattle.scenario.proofs.Place.{env-map}
 use Rattle.runlog.specs.Held.{Held, runAt}
 use Rattle.runlog.proofs.Logs.{part-length}
-use Rattle.sheet.specs.Memory.{rowAt, listed}
+use Rattle.row.specs.Memory.{rowAt, listed}
 use Rattle.pattern.specs.Placing.{puts, isPosition, by}
 use Rattle.pattern.proofs.Placing.{puts-keep, puts-read}
 
 -- Positions one after another
 
-module _ (n : ℕ) (xs : List ℕ) (np j : ℕ) (hx : np ≤ length xs) where
-  position-step : j < np → all (isPosition n) (drop j (take np xs)) ≡ (isPosition n (getD xs j 0) && all (isPosition n) (drop (j + 1) (take np xs)))
+module _ (n : ℕ) (xs : List ℕ) (point-count j : ℕ) (hx : point-count ≤ length xs) where
+  position-step : j < point-count → all (isPosition n) (drop j (take point-count xs)) ≡ (isPosition n (getD xs j 0) && all (isPosition n) (drop (j + 1) (take point-count xs)))
   unfolding all
-  position-step h = rw (add-one j, drop-cons (take np xs) j 0 (omega (arith, length-take-le np xs hx)), getD-take np xs j 0 h)
+  position-step h = rw (add-one j, drop-cons (take point-count xs) j 0 (omega (arith, length-take-le point-count xs hx)), getD-take point-count xs j 0 h)
 
-  module _ (x : ℕ) (e : x ≡ getD xs j 0) (h : j < np) where
-    pub position-low : x < 1 → all (isPosition n) (drop j (take np xs)) ≡ false
+  module _ (x : ℕ) (e : x ≡ getD xs j 0) (h : j < point-count) where
+    pub position-low : x < 1 → all (isPosition n) (drop j (take point-count xs)) ≡ false
     unfolding isPosition
     position-low l = position-step h ∙ rw (sym e) (simp (lt-leb 1 x l))
 
-    pub position-high : 1 ≤ x → n < x → all (isPosition n) (drop j (take np xs)) ≡ false
+    pub position-high : 1 ≤ x → n < x → all (isPosition n) (drop j (take point-count xs)) ≡ false
     unfolding isPosition
     position-high l m = position-step h ∙ rw (sym e) (simp (le-leb 1 x l, lt-leb x n m))
 
-    pub position-on : 1 ≤ x → x ≤ n → all (isPosition n) (drop j (take np xs)) ≡ all (isPosition n) (drop (j + 1) (take np xs))
+    pub position-on : 1 ≤ x → x ≤ n → all (isPosition n) (drop j (take point-count xs)) ≡ all (isPosition n) (drop (j + 1) (take point-count xs))
     unfolding isPosition
     position-on l m = position-step h ∙ rw (sym e) (simp (le-leb 1 x l, le-leb x n m))
 
-  pub position-end : np ≤ j → all (isPosition n) (drop j (take np xs)) ≡ true
+  pub position-end : point-count ≤ j → all (isPosition n) (drop j (take point-count xs)) ≡ true
   unfolding all
-  position-end h = let e : length (take np xs) ≤ j = omega (arith, length-take-le np xs hx) in rw (drop-of-length-le (take np xs) e)
+  position-end h = let e : length (take point-count xs) ≤ j = omega (arith, length-take-le point-count xs hx) in rw (drop-of-length-le (take point-count xs) e)
 
 -- Rows one after another
 
@@ -102,8 +102,8 @@ matching-off : (run : Run) (rs : List Row) (xs : List ℕ) → length xs ≡ len
 unfolding matching
 matching-off run rs xs l a = rw (eq-eqb (length xs) (length (points rs)) l, a)
 
--- Over a log in memory, by how the test ends: np points at the front of pts, and as many positions at the front of xs
-module _ (ticks events : List ℕ) (n : ℕ) (H : Held ticks events n) (rs : List Row) (pts xs : List ℕ) (np : ℕ) (en : np ≡ length (points rs)) (ep : take np pts ≡ points rs) (hx : np ≤ length xs) where
+-- Over a log in memory, by how the test ends: the points stand at the front of a table, and as many positions at the front of xs
+module _ (ticks events : List ℕ) (n : ℕ) (H : Held ticks events n) (rs : List Row) (table xs : List ℕ) (point-count : ℕ) (en : point-count ≡ length (points rs)) (ep : take point-count table ≡ points rs) (hx : point-count ≤ length xs) where
   line-is : (z : ℕ) → isPosition n z ≡ is-line (runAt ticks events n) z
   unfolding isPosition is-line
   line-is z = rw (part-length events n (H .lines .room))
@@ -113,19 +113,19 @@ module _ (ticks events : List ℕ) (n : ℕ) (H : Held ticks events n) (rs : Lis
   lines-are [] = refl
   lines-are (z ∷ zs) = ap₂ _&&_ (line-is z) (lines-are zs)
 
-  size-is : length (take np xs) ≡ length (points rs)
-  size-is = length-take-le np xs hx ∙ en
+  size-is : length (take point-count xs) ≡ length (points rs)
+  size-is = length-take-le point-count xs hx ∙ en
 
-  pub points-room : np ≤ length pts
-  points-room = omega (arith, length-take np pts, ap length ep, en)
+  pub points-room : point-count ≤ length table
+  points-room = omega (arith, length-take point-count table, ap length ep, en)
 
-  pub placement-off : (b : Bool) → b ≡ all (isPosition n) (take np xs) → b ≡ false → false ≡ matching (runAt ticks events n) rs (take np xs)
-  placement-off b e f = matching-off (runAt ticks events n) rs (take np xs) size-is (sym (lines-are (take np xs)) ∙ sym e ∙ f)
+  pub placement-off : (b : Bool) → b ≡ all (isPosition n) (take point-count xs) → b ≡ false → false ≡ matching (runAt ticks events n) rs (take point-count xs)
+  placement-off b e f = matching-off (runAt ticks events n) rs (take point-count xs) size-is (sym (lines-are (take point-count xs)) ∙ sym e ∙ f)
 
-  pub placement-met : Pattern rs → (b : Bool) → b ≡ all (isPosition n) (take np xs) → b ≡ true → (E : List ℕ) → E ≡ puts (set (replicate 100 0) 99 (n + 1)) (take np pts) (take np xs)
-      → (r : Bool) → r ≡ all (meets (runAt ticks events n) (by E)) rs → r ≡ matching (runAt ticks events n) rs (take np xs)
+  pub placement-met : Pattern rs → (b : Bool) → b ≡ all (isPosition n) (take point-count xs) → b ≡ true → (E : List ℕ) → E ≡ puts (set (replicate 100 0) 99 (n + 1)) (take point-count table) (take point-count xs)
+      → (r : Bool) → r ≡ all (meets (runAt ticks events n) (by E)) rs → r ≡ matching (runAt ticks events n) rs (take point-count xs)
   placement-met R b e f E g r h =
       h
-      ∙ ap (λ (z : List ℕ). all (meets (runAt ticks events n) (by z)) rs) (g ∙ ap (λ (ps : List ℕ). puts (set (replicate 100 0) 99 (n + 1)) ps (take np xs)) ep)
-      ∙ matching-met (runAt ticks events n) rs R (set (replicate 100 0) 99 (n + 1)) (take np xs) refl
-      (rw (part-length events n (H .lines .room), add-one n)) (length-set (replicate 100 0) 99 (n + 1)) size-is (sym (lines-are (take np xs)) ∙ sym e ∙ f)
+      ∙ ap (λ (z : List ℕ). all (meets (runAt ticks events n) (by z)) rs) (g ∙ ap (λ (ps : List ℕ). puts (set (replicate 100 0) 99 (n + 1)) ps (take point-count xs)) ep)
+      ∙ matching-met (runAt ticks events n) rs R (set (replicate 100 0) 99 (n + 1)) (take point-count xs) refl
+      (rw (part-length events n (H .lines .room), add-one n)) (length-set (replicate 100 0) 99 (n + 1)) size-is (sym (lines-are (take point-count xs)) ∙ sym e ∙ f)

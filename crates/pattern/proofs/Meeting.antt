@@ -42,9 +42,9 @@ past k n le ne = omega arith
 pub under : (k n : ℕ) → k < suc n → k ≤ n
 under k n h = omega arith
 
-module _ (ticks events env : List ℕ) (n kind p q a b s x y : ℕ) (H : Held ticks events n) (ex : x ≡ getD env p 0) (ey : y ≡ getD env q 0) where
+module _ (ticks events positions : List ℕ) (n kind p q a b s x y : ℕ) (H : Held ticks events n) (ex : x ≡ getD positions p 0) (ey : y ≡ getD positions q 0) where
   abbrev pub Met : Bool → Type 0
-  Met r = r ≡ meets (runAt ticks events n) (by env) (decode kind p q a b s)
+  Met r = r ≡ meets (runAt ticks events n) (by positions) (decode kind p q a b s)
 
   pub met-1 : kind ≡ 1 → Met (hasAt (part events n) s x)
   unfolding meets decode
@@ -60,27 +60,27 @@ module _ (ticks events env : List ℕ) (n kind p q a b s x y : ℕ) (H : Held ti
 
   pub met-10 : kind ≡ 10 → Met (nearOf ticks n x y a b)
   unfolding meets decode
-  met-10 k = rw (k, ex, ey) (sym (near-is ticks events n (H .room) (getD env p 0) (getD env q 0) a b))
+  met-10 k = rw (k, ex, ey) (sym (near-is ticks events n (H .room) (getD positions p 0) (getD positions q 0) a b))
 
   pub met-11 : kind ≡ 11 → Met (not (nearOf ticks n x y a b))
   unfolding meets decode
-  met-11 k = rw (k, ex, ey) (ap not (sym (near-is ticks events n (H .room) (getD env p 0) (getD env q 0) a b)))
+  met-11 k = rw (k, ex, ey) (ap not (sym (near-is ticks events n (H .room) (getD positions p 0) (getD positions q 0) a b)))
 
-  pub met-placed : (z : ℕ) → z ≡ getD env a 0 → 2 ≤ kind → kind ≤ 5 → Met (placedBy (bare events n) kind s x y z)
+  pub met-placed : (z : ℕ) → z ≡ getD positions a 0 → 2 ≤ kind → kind ≤ 5 → Met (placedBy (bare events n) kind s x y z)
   unfolding meets decode placedBy clear
   met-placed z ez l h =
       rw (ex, ey, ez)
-      (four (λ (k : ℕ). placedBy (bare events n) k s (getD env p 0) (getD env q 0) (getD env a 0) ≡ meets (runAt ticks events n) (by env) (decode k p q a b s))
+      (four (λ (k : ℕ). placedBy (bare events n) k s (getD positions p 0) (getD positions q 0) (getD positions a 0) ≡ meets (runAt ticks events n) (by positions) (decode k p q a b s))
       refl refl refl refl kind l h)
 
   pub met-ordered : 6 ≤ kind → kind ≤ 8 → Met (orderedBy kind x y)
   unfolding meets decode orderedBy
   met-ordered l h =
       rw (ex, ey)
-      (three (λ (k : ℕ). orderedBy k (getD env p 0) (getD env q 0) ≡ meets (runAt ticks events n) (by env) (decode k p q a b s)) refl refl refl kind l h)
+      (three (λ (k : ℕ). orderedBy k (getD positions p 0) (getD positions q 0) ≡ meets (runAt ticks events n) (by positions) (decode k p q a b s)) refl refl refl kind l h)
 
   pub met-low : kind < 1 → Met false
-  met-low h = sym (unknown-unmet (runAt ticks events n) (by env) p q a b s kind (λ l m. omega arith))
+  met-low h = sym (unknown-unmet (runAt ticks events n) (by positions) p q a b s kind (λ l m. omega arith))
 
   pub met-high : 12 < kind → Met false
-  met-high h = sym (unknown-unmet (runAt ticks events n) (by env) p q a b s kind (λ l m. omega arith))
+  met-high h = sym (unknown-unmet (runAt ticks events n) (by positions) p q a b s kind (λ l m. omega arith))

@@ -11,8 +11,8 @@ use lib.Seq.{length-take-le, take-suc-set, append-snoc}
 use lib.Dec.{leb}
 use Rattle.scenario.specs.Rows.{set-of, introduced, points}
 use Rattle.scenario.proofs.Numbers.{introduced-is}
-use Rattle.sheet.specs.Reading.{rowIn}
-use Rattle.sheet.specs.Memory.{kindAt, pAt, qAt, aAt, bAt, lineIn, rowAt, listed}
+use Rattle.row.specs.Row.{rowIn}
+use Rattle.row.specs.Memory.{kindAt, pAt, qAt, aAt, bAt, lineIn, rowAt, listed}
 
 -- Gathering the points
 

@@ -1,17 +1,17 @@
 // Rows over a log in memory: when a placement meets a row, the points of rows, and when a placement is a matching of them.
 ghost use mathlib.Core.Path.{_≡_};
 ghost use mathlib.Core.Bool.{_&&_};
-ghost use Prim.Native.Nat.{_+_, _-_, _≤_, _<_};
+ghost use Prim.Native.Nat.{_≤_, _<_};
 ghost use lib.ListN.{length, getD, take};
 ghost use lib.Dec.{ltb, leb};
-ghost use Rattle.scenario.specs.Rows.{set-of as setOf, clear as clearOf, meets as meetsOf, points};
+ghost use Rattle.scenario.specs.Rows.{set-of as setOf, clear as clearOf, meets as meetsOf, points as pointsOf};
 ghost use Rattle.scenario.specs.Log.{hasAt};
 ghost use Rattle.scenario.specs.Sheet.{all, matching};
 ghost use Rattle.scenario.specs.Reading.{Pattern, most-points};
 ghost use Rattle.runlog.specs.Held.{Events, Held, part, runAt, bare};
 ghost use Rattle.pattern.specs.Meeting.{placedBy, orderedBy};
 ghost use Rattle.scenario.specs.Fields.{decode};
-ghost use Rattle.sheet.specs.Memory.{rowAt, rowsOf};
+ghost use Rattle.row.specs.Memory.{rowAt, rowsOf};
 ghost use Rattle.pattern.specs.Placing.{puts, isPosition, by};
 
 // Point numbers are below 100; "99 the close".
@@ -39,12 +39,12 @@ pub struct Row {
 }
 
 // The position of a point; 0 for a number that the array does not have.
-pub fn at(env: &[u32], m: u32) -> u32
-    ensures { λ r. ⌜ r ≡ getD (now (env .entry)) m 0 ⌝ }
+pub fn at(positions: &[u32], p: u32) -> u32
+    ensures { λ r. ⌜ r ≡ getD (now (positions .entry)) p 0 ⌝ }
 {
-    let i = m as usize;
-    if i < env.len() {
-        return env[i];
+    let i = p as usize;
+    if i < positions.len() {
+        return positions[i];
     }
     0
 }
@@ -62,12 +62,12 @@ pub fn row_at(rows: &[u32; ROWS_ROOM], j: u32) -> Row
     ensures { λ r. ⌜ decode (r .kind) (r .p) (r .q) (r .a) (r .b) (r .set) ≡ rowAt (now (rows .entry)) j ⌝ }
 {
     let i = j as usize;
-    let a = sheet::a_of(rows, i);
-    let b = sheet::b_of(rows, i);
+    let a = row::a_of(rows, i);
+    let b = row::b_of(rows, i);
     Row {
-        kind: sheet::kind_of(rows, i),
-        p: sheet::p_of(rows, i),
-        q: sheet::q_of(rows, i),
+        kind: row::kind_of(rows, i),
+        p: row::p_of(rows, i),
+        q: row::q_of(rows, i),
         a,
         b,
         set: set_of(a, b),
@@ -132,18 +132,18 @@ fn ordered(kind: u32, x: u32, y: u32) -> bool
     x == y
 }
 
-// "Kinds of row and when a placement meets them": whether the row is met where its points have the positions that env gives, by point number.
-pub fn meets(ticks: &[u32], events: &[u32], n: u32, env: &[u32], row: Row) -> bool
+// "Kinds of row and when a placement meets them": whether the row is met where its points have these positions, by point number.
+pub fn meets(ticks: &[u32], events: &[u32], n: u32, positions: &[u32], row: Row) -> bool
     requires { ⌜ Held (now ticks) (now events) n ⌝ }
-    ensures { λ r. ⌜ r ≡ meetsOf (runAt (now (ticks .entry)) (now (events .entry)) n) (by (now (env .entry))) (decode (row .kind) (row .p) (row .q) (row .a) (row .b) (row .set)) ⌝ }
+    ensures { λ r. ⌜ r ≡ meetsOf (runAt (now (ticks .entry)) (now (events .entry)) n) (by (now (positions .entry))) (decode (row .kind) (row .p) (row .q) (row .a) (row .b) (row .set)) ⌝ }
 {
     let kind = row.kind;
     let set = row.set;
-    let x = at(env, row.p);
-    let y = at(env, row.q);
+    let x = at(positions, row.p);
+    let y = at(positions, row.q);
     match kind {
         1 => runlog::has(events, n, set, x),
-        2..=5 => placed(events, n, kind, set, x, y, at(env, row.a)),
+        2..=5 => placed(events, n, kind, set, x, y, at(positions, row.a)),
         6..=8 => ordered(kind, x, y),
         9 => runlog::clear(events, n, set, x, y),
         10 => runlog::near(ticks, n, x, y, row.a, row.b),
@@ -162,46 +162,46 @@ fn introduces(kind: u32) -> bool
     kind <= 5
 }
 
-// The number of the points that the rows introduce; they are written to the front of pts in order of introduction.
-pub fn gather(rows: &[u32; ROWS_ROOM], count: u32, pts: &mut [u32]) -> u32
-    requires { ⌜ (count ≤ 200) × (length (points (rowsOf (now rows) count)) ≤ length (now pts)) × (length (points (rowsOf (now rows) count)) ≤ most-points) ⌝ }
-    ensures number { λ r. ⌜ r ≡ length (points (rowsOf (now (rows .entry)) count)) ⌝ }
-    ensures points { λ r. ⌜ take r (now (pts .exit)) ≡ points (rowsOf (now (rows .entry)) count) ⌝ }
+// The number of the points that the rows introduce; they are written to the front of `points` in order of introduction.
+pub fn gather(rows: &[u32; ROWS_ROOM], count: u32, points: &mut [u32]) -> u32
+    requires { ⌜ (count ≤ 200) × (length (pointsOf (rowsOf (now rows) count)) ≤ length (now points)) × (length (pointsOf (rowsOf (now rows) count)) ≤ most-points) ⌝ }
+    ensures number { λ r. ⌜ r ≡ length (pointsOf (rowsOf (now (rows .entry)) count)) ⌝ }
+    ensures points { λ r. ⌜ take r (now (points .exit)) ≡ pointsOf (rowsOf (now (rows .entry)) count) ⌝ }
 {
-    let mut np: u32 = 0;
+    let mut point_count: u32 = 0;
     let mut j: u32 = 0;
     while j < count {
         let row = j as usize;
         j += 1;
-        if !introduces(sheet::kind_of(rows, row)) {
+        if !introduces(row::kind_of(rows, row)) {
             continue;
         }
-        let i = np as usize;
-        pts[i] = sheet::p_of(rows, row);
-        np += 1;
+        let i = point_count as usize;
+        points[i] = row::p_of(rows, row);
+        point_count += 1;
     }
-    np
+    point_count
 }
 
-// Puts the first np positions as those of the first np points.
-fn put_points(pts: &[u32], positions: &[u32], np: u32, env: &mut [u32])
-    requires { ⌜ (np ≤ length (now pts)) × (np ≤ length (now positions)) ⌝ }
-    ensures { λ _. ⌜ now (env .exit) ≡ puts (now (env .entry)) (take np (now (pts .entry))) (take np (now (positions .entry))) ⌝ }
+// Stores the first `point_count` positions as those of the first `point_count` points, by point number.
+fn put_points(points: &[u32], positions: &[u32], point_count: u32, standing: &mut [u32])
+    requires { ⌜ («point_count» ≤ length (now points)) × («point_count» ≤ length (now positions)) ⌝ }
+    ensures { λ _. ⌜ now (standing .exit) ≡ puts (now (standing .entry)) (take «point_count» (now (points .entry))) (take «point_count» (now (positions .entry))) ⌝ }
 {
     let mut j: u32 = 0;
-    while j < np {
-        sheet::store(env, at(pts, j) as usize, at(positions, j));
+    while j < point_count {
+        row::store(standing, at(points, j) as usize, at(positions, j));
         j += 1;
     }
 }
 
-// Whether each of the first np positions is a line's, 1 to n.
-fn all_lines(positions: &[u32], np: u32, n: u32) -> bool
-    requires { ⌜ np ≤ length (now positions) ⌝ }
-    ensures { λ r. ⌜ r ≡ all (isPosition n) (take np (now (positions .entry))) ⌝ }
+// Whether each of the first `point_count` positions is a line's, 1 to n.
+fn all_lines(positions: &[u32], point_count: u32, n: u32) -> bool
+    requires { ⌜ «point_count» ≤ length (now positions) ⌝ }
+    ensures { λ r. ⌜ r ≡ all (isPosition n) (take «point_count» (now (positions .entry))) ⌝ }
 {
     let mut j: u32 = 0;
-    while j < np {
+    while j < point_count {
         let x = at(positions, j);
         if x < 1 {
             return false;
@@ -214,21 +214,21 @@ fn all_lines(positions: &[u32], np: u32, n: u32) -> bool
     true
 }
 
-// Whether all rows are met where their points have the positions that env gives.
+// Whether all rows are met where their points have these positions, by point number.
 fn all_met(
     ticks: &[u32],
     events: &[u32],
     n: u32,
-    env: &[u32],
+    positions: &[u32],
     rows: &[u32; ROWS_ROOM],
     count: u32,
 ) -> bool
     requires { ⌜ Held (now ticks) (now events) n × (count ≤ 200) ⌝ }
-    ensures { λ r. ⌜ r ≡ all (meetsOf (runAt (now (ticks .entry)) (now (events .entry)) n) (by (now (env .entry)))) (rowsOf (now (rows .entry)) count) ⌝ }
+    ensures { λ r. ⌜ r ≡ all (meetsOf (runAt (now (ticks .entry)) (now (events .entry)) n) (by (now (positions .entry)))) (rowsOf (now (rows .entry)) count) ⌝ }
 {
     let mut j: u32 = 0;
     while j < count {
-        if !meets(ticks, events, n, env, row_at(rows, j)) {
+        if !meets(ticks, events, n, positions, row_at(rows, j)) {
             return false;
         }
         j += 1;
@@ -236,25 +236,25 @@ fn all_met(
     true
 }
 
-// Whether the first np positions are a matching of the rows, whose points, in order of introduction, are the first np of pts.
+// Whether the first `point_count` positions are a matching of the rows, whose points, in order of introduction, are the first of `points`, as many.
 pub fn is_matching(
     ticks: &[u32],
     events: &[u32],
     n: u32,
     rows: &[u32; ROWS_ROOM],
     count: u32,
-    pts: &[u32],
-    np: u32,
+    points: &[u32],
+    point_count: u32,
     positions: &[u32],
 ) -> bool
-    requires { ⌜ Held (now ticks) (now events) n × (count ≤ 200) × Pattern (rowsOf (now rows) count) × (np ≡ length (points (rowsOf (now rows) count))) × (take np (now pts) ≡ points (rowsOf (now rows) count)) × (np ≤ length (now positions)) ⌝ }
-    ensures { λ r. ⌜ r ≡ matching (runAt (now (ticks .entry)) (now (events .entry)) n) (rowsOf (now (rows .entry)) count) (take np (now (positions .entry))) ⌝ }
+    requires { ⌜ Held (now ticks) (now events) n × (count ≤ 200) × Pattern (rowsOf (now rows) count) × («point_count» ≡ length (pointsOf (rowsOf (now rows) count))) × (take «point_count» (now points) ≡ pointsOf (rowsOf (now rows) count)) × («point_count» ≤ length (now positions)) ⌝ }
+    ensures { λ r. ⌜ r ≡ matching (runAt (now (ticks .entry)) (now (events .entry)) n) (rowsOf (now (rows .entry)) count) (take «point_count» (now (positions .entry))) ⌝ }
 {
-    if !all_lines(positions, np, n) {
+    if !all_lines(positions, point_count, n) {
         return false;
     }
-    let mut env = [0u32; POINT_NUMBERS];
-    env[CLOSE] = n + 1;
-    put_points(pts, positions, np, &mut env);
-    all_met(ticks, events, n, &env, rows, count)
+    let mut standing = [0u32; POINT_NUMBERS];
+    standing[CLOSE] = n + 1;
+    put_points(points, positions, point_count, &mut standing);
+    all_met(ticks, events, n, &standing, rows, count)
 }

@@ -4,7 +4,7 @@ use mathlib.Core.Path.{_≡_, refl}
 use mathlib.Core.Bool.{Bool, true, _&&_}
 use mathlib.Core.List.{List, [], _∷_, _++_}
 use Prim.Native.Nat.{ℕ}
-use lib.ListN.{length, set, take}
+use lib.ListN.{set, take}
 use lib.Dec.{eqb}
 use Rattle.columns.specs.Number.{fieldAt, numeral, scan}
 use Rattle.columns.specs.Spell.{spell, left, leftByte, lastByte}

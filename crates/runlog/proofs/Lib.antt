@@ -8,3 +8,4 @@ pub mod Loading
 pub mod Scans
 pub mod Logs
 pub mod Examples
+pub mod Bound

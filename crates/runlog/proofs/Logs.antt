@@ -1,13 +1,13 @@
 -- The log in memory: what its slices say of positions, and that its run has the laws that the theorems on rows ask.
 -- Assumes nothing.
-use mathlib.Core.Path.{_≡_, refl, sym, _∙_, ap, ap₂, subst}
+use mathlib.Core.Path.{_≡_, refl, sym, _∙_, ap, subst}
 use mathlib.Core.Bool.{Bool, true, false, cond, and-false}
 use mathlib.Core.List.{List, [], _∷_}
 use Prim.Native.Nat.{ℕ, zero, suc, _+_, _-_, _≤_, _<_, min, max}
 use native.Mathlib.Omega.{arith}
 use lib.ListN.{length, getD, drop, length-take, length-drop, List·getD-eq-default}
 use lib.Seq.{getD-take, getD-drop}
-use lib.Dec.{T, ltb, leb, eqb, not-T}
+use lib.Dec.{T, ltb, eqb, not-T}
 use borrow.Author.Tests.{lt-ltb, le-ltb, le-leb, lt-leb, eq-eqb, ne-eqb}
 use Rattle.scenario.specs.Rows.{between, clear, full-set, event-count}
 use Rattle.scenario.specs.Log.{Log, inSet, hasAt, tick, gap, sure, nearAt, runOf}

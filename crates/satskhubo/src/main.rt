@@ -17,7 +17,7 @@ fn load_or_usual(i: usize, usual: &[u8], into: &mut [u8]) -> files::Loaded
 
 // Checks, and prints the lines of document 01.
 fn print_report(sheet: &[u8], log: &[u8]) -> bool {
-    let report = verdict::report_check(sheet, log);
+    let report = report::report_check(sheet, log);
     let text = report.text;
     let length = report.length;
     io::write_all(STDOUT_FILENO, &text[0..length])

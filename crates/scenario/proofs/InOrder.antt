@@ -7,7 +7,7 @@ use Prim.Native.Nat.{ℕ, _+_, _*_, _<_}
 use lib.ListN.{length, getD}
 use Rattle.scenario.specs.Rows.{Row, needs, closure, far-end, denying-rows, denials}
 use Rattle.scenario.specs.Denials.{Introduces}
-use Rattle.scenario.specs.DenialsInOrder.{RowDenials, DenialsOf, none, more}
+use Rattle.scenario.specs.DenialsInOrder.{DenialsOf, none, more}
 use Rattle.scenario.specs.Sheet.{Sheet, choices}
 use Rattle.scenario.specs.Reading.{SheetRead}
 use Rattle.scenario.proofs.Section.{Ready}

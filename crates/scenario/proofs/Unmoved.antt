@@ -7,14 +7,14 @@ use mathlib.Core.Logic.{⊎-elim}
 use mathlib.Core.Bool.{Bool, true, false, not, _&&_, cond}
 use mathlib.Core.List.{List, [], _∷_, _++_, map}
 use mathlib.Core.Option.{Option, none, some}
-use Prim.Native.Nat.{ℕ, zero, suc, _+_, _-_, _*_, _/_, _%_, _≤_, _<_, min, max}
+use Prim.Native.Nat.{ℕ, zero, suc, _+_, _-_, _*_, _/_, _%_, _≤_, min, max}
 use native.Mathlib.Omega.{arith}
 use lib.ListN.{length, getD}
 use lib.Dec.{leb, eqb, T, leb→le}
 use Rattle.scenario.specs.Rows.{Row, point, next, last, earlier, later, before, apart, same, free, within, outside, event, close-point, Env, meets, clear, points, needs, closure, End, start, close, inner, end, far-end, denying-free, denying-rows, denials}
 use Rattle.scenario.specs.Log.{Log, inSet, hasAt, nearAt, runOf}
 use Rattle.scenario.specs.Clock.{plainAt, plainRun, NoneAt, Unmoved, UnmovedSheet}
-use Rattle.scenario.specs.Sheet.{Sheet, lookup, env, all, flat, is-line, matching, choices, total, choose, chosen, antiscenario, Answer, found, Says}
+use Rattle.scenario.specs.Sheet.{Sheet, lookup, env, all, flat, is-line, matching, choices, total, choose, chosen, antiscenario, found, Says}
 use Rattle.scenario.specs.Walk.{Walk, placing, lowest-above, highest-below, onto, stay, advance, later-stop, stops, walk}
 use Rattle.scenario.specs.Search.{stopped, smallest-matching, is-violating, check, place-of, faults}
 use Rattle.scenario.specs.Reading.{All}

@@ -1,11 +1,2 @@
-pub mod Standing
-pub mod Steps
-pub mod Jump
-pub mod Links
-pub mod Found
-pub mod Preparing
 pub mod Finding
-pub mod Matchings
-pub mod Turn
 pub mod Searching
-pub mod Following

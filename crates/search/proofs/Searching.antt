@@ -15,11 +15,12 @@ use Rattle.scenario.proofs.Least.{search-says}
 use Rattle.runlog.specs.Log.{runIn}
 use Rattle.runlog.specs.Held.{runAt}
 use Rattle.sheet.specs.Reading.{sheetIn}
-use Rattle.sheet.specs.Memory.{rowsOf}
-use Rattle.antiscenario.specs.Judge.{refusalOf, Ready}
-use Rattle.search.specs.Matching.{filled, isFound}
-use Rattle.search.specs.Searching.{Searched, unsearched, searched, searchRows, searchOf, Matches, Told}
-use Rattle.search.proofs.Steps.{never}
+use Rattle.row.specs.Memory.{rowsOf}
+use Rattle.antiscenario.specs.Judge.{refusalOf}
+use Rattle.antiscenario.specs.Held.{Ready}
+use Rattle.search.specs.Searching.{filled, Searched, unsearched, searched, searchRows, searchOf, Matches, Told}
+use Rattle.placement.specs.Matching.{isFound}
+use Rattle.plan.proofs.Due.{never}
 
 -- Rows in memory
 
@@ -43,7 +44,7 @@ module _ (s l : List ℕ) (m : ℕ) (places : List ℕ) where
       → (q : Searched) → q ≡ searchRows (runAt ticks events n) (rowsOf rows count) places → q ≡ searchOf s l m places
   unfolding searchOf
   in-memory z rows ticks events count n R q e =
-      e ∙ ap₂ (λ (run : Run) (rs : List Row). searchRows run rs places) (R .run-is) (R .rows-are) ∙ simp (eq-eqb (refusalOf s l m) 0 z)
+      e ∙ ap₂ (λ (run : Run) (rs : List Row). searchRows run rs places) (R .run-is) (R .rows-held .rows-are) ∙ simp (eq-eqb (refusalOf s l m) 0 z)
 
 -- What a search says
 

@@ -1,3 +1,1 @@
-pub mod Matching
-pub mod Placing
 pub mod Searching

@@ -8,13 +8,13 @@ use Prim.Native.Nat.{ℕ}
 use lib.ListN.{length, drop}
 use lib.Dec.{eqb, ltb, T}
 use Rattle.scenario.specs.Rows.{Row, Run, points}
-use Rattle.scenario.specs.Sheet.{Answer, antiscenario, matching, Smallest}
+use Rattle.scenario.specs.Sheet.{Answer, antiscenario, matching, Smallest, nothing, found}
 use Rattle.scenario.specs.Search.{smallest-matching}
 use Rattle.sheet.specs.Reading.{sheetIn}
 use Rattle.runlog.specs.Log.{runIn}
 use Rattle.antiscenario.specs.Judge.{refusalOf}
 use Rattle.search.specs.declared.SearchAnswer.{SearchAnswer}
-use Rattle.search.specs.Matching.{filled, isFound}
+use Rattle.placement.specs.Matching.{isFound}
 
 -- the refusal or 0, whether a matching was found, and what the lent places hold afterwards
 pub record Searched : Type 0 where
@@ -28,6 +28,11 @@ answered r places = record { refusal = r .refusal; hit = r .hit; places = places
 
 abbrev pub unsearched : ℕ → List ℕ → Searched
 unsearched refusal places = record { refusal = refusal; hit = false; places = places }
+
+-- Document 01: the matching is written to the front of the lent places and those after it are kept; with "none" all are.
+unfoldable pub filled : List ℕ → Answer → List ℕ
+filled places nothing = places
+filled places (found xs) = xs ++ drop (length xs) places
 
 abbrev pub searched : List ℕ → Answer → Searched
 searched places a = record { refusal = 0; hit = isFound a; places = filled places a }

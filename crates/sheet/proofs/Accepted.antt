@@ -13,10 +13,11 @@ use Rattle.scenario.specs.Fields.{rowOf}
 use Rattle.scenario.specs.Reading.{All, Seen, first, final, antecedent as seen-antecedent, own as seen-own, Counted, RowRead, RowsRead, SectionsRead, SheetRead}
 use Rattle.scenario.proofs.Base.{all-map, Order, lower, level, upper, order}
 use Rattle.scenario.proofs.Reading.{short}
-use Rattle.sheet.specs.declared.Line.{Line}
-use Rattle.sheet.specs.declared.Stand.{Stand}
-use Rattle.sheet.specs.Row.{stand, start, enter, advance, sectionFits, kindFits, pFits, qFits, restFits, roomFits, unless, refusalWithin, refusal}
-use Rattle.sheet.specs.Reading.{after, rowIn, section, sections, sheetOf}
+use Rattle.row.specs.declared.Line.{Line}
+use Rattle.rules.specs.declared.Stand.{Stand}
+use Rattle.rules.specs.Rules.{stand, start, enter, advance, sectionFits, kindFits, pFits, qFits, restFits, roomFits, unless, refusalWithin, refusal}
+use Rattle.sheet.specs.Reading.{after, section, sections, sheetOf}
+use Rattle.row.specs.Row.{rowIn}
 use Rattle.sheet.specs.Text.{Fits}
 use Rattle.sheet.proofs.Points.{both-true, AnteRow, ante-row, cons-row, cons-next, ante-next}
 

@@ -11,8 +11,9 @@ use lib.Dec.{eqb, lit<}
 use lib.ListN.{length, getD, set, replicate, length-set, getD-replicate}
 use lib.Seq.{getD-set-same, getD-set-other}
 use borrow.Author.Tests.{eq-eqb, ne-eqb, eqb-true, eqb-false, le-leb, lt-leb}
-use Rattle.sheet.specs.declared.Line.{Line}
-use Rattle.sheet.specs.Memory.{sectionAt, kindAt, pAt, qAt, lineIn, linesIn, weightFree, weight, weighLine, weighed, Weighed, product}
+use Rattle.row.specs.declared.Line.{Line}
+use Rattle.row.specs.Memory.{sectionAt, kindAt, pAt, qAt, lineIn, linesIn}
+use Rattle.sheet.specs.Count.{weightFree, weight, weighLine, weighed, Weighed, product}
 
 module _ (k p q : ℕ) where
   pub weight-1 : k ≡ 1 → 0 ≡ weight k p q

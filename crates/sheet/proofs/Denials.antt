@@ -12,9 +12,10 @@ use Rattle.scenario.specs.Rows.{Row, set-of, denying-rows, denying-free, end, c
 use Rattle.scenario.specs.Fields.{decode, rowOf}
 use Rattle.scenario.specs.Sheet.{choices, total, count}
 use Rattle.scenario.proofs.Numbers.{any-kind}
-use Rattle.sheet.specs.declared.Line.{Line}
-use Rattle.sheet.specs.Reading.{rowIn, section, sections, sheetOf}
-use Rattle.sheet.specs.Memory.{edge, weightFree, weight, weighLine, weighed, product}
+use Rattle.row.specs.declared.Line.{Line}
+use Rattle.row.specs.Row.{rowIn}
+use Rattle.sheet.specs.Reading.{section, sections, sheetOf}
+use Rattle.sheet.specs.Count.{edge, weightFree, weight, weighLine, weighed, product}
 use Rattle.sheet.proofs.Count.{weight-high}
 
 -- FREE, by the ends

@@ -12,10 +12,11 @@ use Rattle.columns.specs.Spell.{spell, left, leftByte, lastByte}
 use Rattle.scenario.specs.Rows.{denials, denying-rows, denying-free, end, far-end, closure, brings, elem}
 use Rattle.scenario.specs.Fields.{decode}
 use Rattle.scenario.specs.Sheet.{count, total, choices}
-use Rattle.sheet.specs.declared.Line.{Line}
+use Rattle.row.specs.declared.Line.{Line}
 use Rattle.sheet.specs.declared.Answer.{Answer}
-use Rattle.sheet.specs.Row.{six, lineOf, refusal, sectionFits, refusalWithin, kindFits, pFits, isDue, ordinary, known, qFits, originFits, knownBut, ordinaryBut, bothOrdinary, restFits, setOnly, bothZero, roomFits, enter, advance}
-use Rattle.sheet.specs.Reading.{answer, taken, closing, headOf, rowsFrom, rowBytes, after, sheetOf, section, sections, rowIn}
+use Rattle.row.specs.Row.{six, lineOf, rowIn}
+use Rattle.rules.specs.Rules.{refusal, sectionFits, refusalWithin, kindFits, pFits, isDue, ordinary, known, qFits, originFits, knownBut, ordinaryBut, bothOrdinary, restFits, setOnly, bothZero, roomFits, enter, advance}
+use Rattle.sheet.specs.Reading.{answer, taken, closing, headOf, rowsFrom, rowBytes, after, sheetOf, section, sections}
 use Rattle.sheet.specs.Text.{sheetText, headText, rowsText, rowText}
 
 -- What a case says: the accepted bytes and their N, the refused bytes, the refusal and its row (0: the first line).

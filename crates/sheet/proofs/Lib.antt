@@ -1,4 +1,3 @@
-pub mod Arms
 pub mod Loop
 pub mod Count
 pub mod Memory
@@ -15,3 +14,5 @@ pub mod Before
 pub mod Permits
 pub mod Valid
 pub mod Examples
+pub mod Bound
+pub mod Held

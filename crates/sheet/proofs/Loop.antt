@@ -7,15 +7,16 @@ use Prim.Native.Nat.{ℕ, suc, _+_, _*_, _-_, _≤_, _<_}
 use native.Mathlib.Nat.{sub-zero}
 use native.Mathlib.Numerals.{add-one}
 use native.Mathlib.Omega.{arith}
-use lib.ListN.{length, take, drop, length-set, length-take, length-drop}
+use lib.ListN.{length, take, drop, length-take, length-drop}
 use lib.Dec.{eqb, leb}
 use borrow.Author.Tests.{ne-eqb}
-use Rattle.sheet.specs.declared.Line.{Line}
-use Rattle.sheet.specs.declared.Stand.{Stand}
-use Rattle.sheet.specs.declared.Parsed.the-variants.{Row, Malformed}
-use Rattle.sheet.specs.Row.{stand, start, enter, advance, lineOf, refusal}
+use Rattle.row.specs.declared.Line.{Line}
+use Rattle.rules.specs.declared.Stand.{Stand}
+use Rattle.row.specs.declared.Parsed.the-variants.{Row, Malformed}
+use Rattle.rules.specs.Rules.{stand, start, enter, advance, refusal}
+use Rattle.row.specs.Row.{lineOf}
 use Rattle.sheet.specs.Reading.{Taken, stop, more, onLine, after, rowBytes, rowsFrom}
-use Rattle.sheet.specs.Memory.{put, lay}
+use Rattle.row.specs.Memory.{put, lay}
 
 -- Where a reading stands after i rows, no number is above i.
 pub record Within (at : Stand) (i : ℕ) : Type 0 where
@@ -108,7 +109,3 @@ part-row s i = let e : 7 + 35 * i + 35 - (7 + 35 * i) ≡ 35 = omega arith in rw
 pub row-length : (s : List ℕ) (i n : ℕ) → i < n → 7 + 35 * n ≤ length s → length (rowBytes s i) ≡ 35
 unfolding rowBytes
 row-length s i n h l = simp (length-take, length-drop) (omega arith)
-
-pub put-length : (i : ℕ) (l : Line) (m : List ℕ) → length (put i l m) ≡ length m
-unfolding put
-put-length i l m = simp length-set

@@ -16,12 +16,12 @@ use Rattle.columns.proofs.Spelling.{spell-read}
 use Rattle.scenario.specs.Fields.{Fields, five, fields}
 use Rattle.scenario.specs.Sheet.{count}
 use Rattle.scenario.specs.Reading.{All}
-use Rattle.sheet.specs.declared.Answer.{Answer}
-use Rattle.sheet.specs.declared.Line.{Line}
-use Rattle.sheet.specs.declared.Stand.{Stand}
-use Rattle.sheet.specs.declared.Parsed.the-variants.{Row}
-use Rattle.sheet.specs.Row.{six, lineOf, start}
-use Rattle.sheet.specs.Reading.{headed, headOf, Taken, more, after, rowBytes, rowsFrom, rowIn, sheetOf, taken, accepted, closing, answer, sheetIn}
+use Rattle.row.specs.declared.Line.{Line}
+use Rattle.rules.specs.declared.Stand.{Stand}
+use Rattle.row.specs.declared.Parsed.the-variants.{Row}
+use Rattle.row.specs.Row.{six, lineOf, rowIn}
+use Rattle.rules.specs.Rules.{start}
+use Rattle.sheet.specs.Reading.{headed, headOf, Taken, more, after, rowBytes, rowsFrom, sheetOf, taken, accepted, closing, answer, sheetIn}
 use Rattle.sheet.specs.Text.{rowText, rowsText, headText, sheetText, numbersOf, textOf}
 use Rattle.sheet.proofs.Accepted.{Accepted}
 use Rattle.columns.proofs.Lines.{past}

@@ -16,8 +16,8 @@ use Rattle.scenario.specs.Reading.{Ordinary, Counted, Seen, first, final, antec
 use Rattle.scenario.proofs.Base.{elem-at, Order, lower, level, upper, order}
 use Rattle.scenario.proofs.Reading.{counted-in, counted-all}
 use Rattle.scenario.proofs.Halves.{lower-half-fits, upper-half-fits, halves-fit, empty-halves}
-use Rattle.sheet.specs.declared.Line.{Line}
-use Rattle.sheet.specs.Row.{ordinary, known, isDue, knownBut, ordinaryBut, bothOrdinary, kindFits, pFits, originFits, qFits, setOnly, bothZero, restFits}
+use Rattle.row.specs.declared.Line.{Line}
+use Rattle.rules.specs.Rules.{ordinary, known, isDue, knownBut, ordinaryBut, bothOrdinary, kindFits, pFits, originFits, qFits, setOnly, bothZero, restFits}
 use Rattle.sheet.specs.Text.{Fits, numbersOf}
 use Rattle.sheet.specs.Valid.{rowsOf, Introduced, OrdinaryPoint, KnownPoint, the-start, the-close, an-ordinary, last-point, Due, Pair, SomeEvents, Permitted}
 use Rattle.sheet.proofs.Points.{both-true, never, ordinary-seen, ordinary-plain, due-is}

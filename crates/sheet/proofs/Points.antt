@@ -14,9 +14,9 @@ use Rattle.scenario.specs.Fields.{five, fields, decode, rowOf}
 use Rattle.scenario.specs.Reading.{All, Ordinary, Seen, first, final, antecedent as seen-antecedent, own as seen-own, RowRead}
 use Rattle.scenario.proofs.Halves.{lower-half-of, upper-half-of, set-of-events}
 use Rattle.scenario.proofs.Numbers.{any-kind}
-use Rattle.sheet.specs.declared.Stand.{Stand}
-use Rattle.sheet.specs.Row.{advance, ordinary, known, isDue, knownBut, ordinaryBut, bothOrdinary, kindFits, pFits, originFits, qFits, setOnly, bothZero, restFits}
-use Rattle.sheet.proofs.Arms.{kind-high}
+use Rattle.rules.specs.declared.Stand.{Stand}
+use Rattle.rules.specs.Rules.{advance, ordinary, known, isDue, knownBut, ordinaryBut, bothOrdinary, kindFits, pFits, originFits, qFits, setOnly, bothZero, restFits}
+use Rattle.rules.proofs.Arms.{kind-high}
 
 pub both-true : (a b : Bool) → (a && b) ≡ true → (a ≡ true) × (b ≡ true)
 both-true true b e = (refl, e)

@@ -14,11 +14,12 @@ use Rattle.scenario.specs.Rows.{Row}
 use Rattle.scenario.specs.Sheet.{count}
 use Rattle.scenario.specs.Reading.{All}
 use Rattle.scenario.proofs.Base.{Order, lower, level, upper, order}
-use Rattle.sheet.specs.declared.Line.{Line}
-use Rattle.sheet.specs.declared.Stand.{Stand}
-use Rattle.sheet.specs.Row.{stand, start, enter, advance, roomFits}
-use Rattle.sheet.specs.Reading.{after, rowIn, section, sections, sheetOf}
-use Rattle.sheet.specs.Memory.{edge, weightFree, weight, weighLine, weighed, product}
+use Rattle.row.specs.declared.Line.{Line}
+use Rattle.rules.specs.declared.Stand.{Stand}
+use Rattle.rules.specs.Rules.{stand, start, enter, advance, roomFits}
+use Rattle.sheet.specs.Reading.{after, section, sections, sheetOf}
+use Rattle.row.specs.Row.{rowIn}
+use Rattle.sheet.specs.Count.{edge, weightFree, weight, weighLine, weighed, product}
 use Rattle.sheet.proofs.Denials.{count-product}
 use Rattle.sheet.proofs.Accepted.{Passes, passes, after-section, enter-same, Accepted, section-in, section-out, passed}
 

@@ -15,11 +15,12 @@ use Rattle.columns.specs.declared.Field.{Field}
 use Rattle.columns.specs.declared.Field.the-variants.{Value, Bad}
 use Rattle.columns.proofs.Spelling.{spell-length, spell-read}
 use Rattle.columns.proofs.Lines.{past, peel}
-use Rattle.sheet.specs.declared.Line.{Line}
-use Rattle.sheet.specs.declared.Parsed.{Parsed}
-use Rattle.sheet.specs.declared.Parsed.the-variants.{Row, Malformed}
-use Rattle.sheet.specs.declared.Stand.{Stand}
-use Rattle.sheet.specs.Row.{six, onField, lineOf, refusal}
+use Rattle.row.specs.declared.Line.{Line}
+use Rattle.row.specs.declared.Parsed.{Parsed}
+use Rattle.row.specs.declared.Parsed.the-variants.{Row, Malformed}
+use Rattle.rules.specs.declared.Stand.{Stand}
+use Rattle.row.specs.Row.{six, onField, lineOf}
+use Rattle.rules.specs.Rules.{refusal}
 use Rattle.sheet.specs.Reading.{headOf, Taken, stop, more, onLine, after, rowBytes, rowsFrom}
 use Rattle.sheet.proofs.Loop.{row-length}
 use Rattle.sheet.proofs.Memory.{Good}

@@ -4,11 +4,11 @@
 use mathlib.Core.Path.{_≡_, refl, sym, ap, ap₂, _∙_, subst}
 use mathlib.Core.Bool.{Bool, true, false, cond}
 use mathlib.Core.List.{List, [], _∷_, _++_, map}
-use Prim.Native.Nat.{ℕ, zero, suc, _+_, _^_, _≤_, _<_}
+use Prim.Native.Nat.{ℕ, zero, suc, _+_, _≤_, _<_}
 use native.Mathlib.Omega.{arith}
 use lib.ListN.{length}
-use lib.Dec.{eqb, ltb}
-use borrow.Author.Tests.{eqb-true, eqb-false, ltb-false}
+use lib.Dec.{eqb}
+use borrow.Author.Tests.{eqb-true, eqb-false}
 use Rattle.scenario.specs.Rows.{Row, event-count}
 use Rattle.scenario.specs.Fields.{five, fields, Tagged, tagged}
 use Rattle.scenario.specs.Sheet.{Sheet, count, Demand, antiscenario}
@@ -18,19 +18,21 @@ use Rattle.scenario.proofs.Final.{demand-three}
 use Rattle.scenario.specs.Reading.{All, SheetRead}
 use Rattle.scenario.proofs.Base.{Order, lower, level, upper, order}
 use Rattle.sheet.specs.declared.Answer.{Answer}
-use Rattle.sheet.specs.declared.Line.{Line}
-use Rattle.sheet.specs.declared.Stand.{Stand}
-use Rattle.sheet.specs.declared.Parsed.{Parsed}
-use Rattle.sheet.specs.declared.Parsed.the-variants.{Row as Parsed·row, Malformed}
-use Rattle.sheet.specs.Row.{start, lineOf, refusal}
-use Rattle.sheet.specs.Reading.{headOf, Taken, stop, onLine, after, rowBytes, rowsFrom, rowIn, section, sections, sheetOf, taken, refused, accepted, closing, answer}
+use Rattle.row.specs.declared.Line.{Line}
+use Rattle.rules.specs.declared.Stand.{Stand}
+use Rattle.row.specs.declared.Parsed.{Parsed}
+use Rattle.row.specs.declared.Parsed.the-variants.{Row as Parsed·row, Malformed}
+use Rattle.rules.specs.Rules.{start, refusal}
+use Rattle.row.specs.Row.{lineOf, rowIn}
+use Rattle.sheet.specs.Reading.{headOf, Taken, stop, onLine, after, rowBytes, rowsFrom, section, sections, sheetOf, taken, refused, accepted, closing, answer}
 use Rattle.sheet.specs.Numbers.{most-antiscenarios}
-use Rattle.sheet.specs.Memory.{lay, linesIn}
+use Rattle.row.specs.Memory.{lay, linesIn}
 use Rattle.sheet.specs.Text.{Fits, sheetText}
 use Rattle.sheet.proofs.Texts.{row-fits, text-only}
-use Rattle.sheet.proofs.Arms.{kind-low, kind-high}
+use Rattle.rules.proofs.Arms.{kind-low, kind-high}
 use Rattle.sheet.proofs.Points.{fields-back}
-use Rattle.sheet.proofs.Memory.{head-good, rows-full, lines-back}
+use Rattle.sheet.proofs.Memory.{head-good, rows-full}
+use Rattle.row.proofs.Memory.{lines-back}
 use Rattle.sheet.proofs.Accepted.{passes, after-section, Accepted, in-columns, section-in, section-out, passed, sections-length, sheet-read}
 use Rattle.sheet.proofs.Room.{antecedent-room, consequents-room, count-most}
 

@@ -13,15 +13,16 @@ use borrow.Author.Tests.{eq-eqb, ne-eqb, le-leb, lt-ltb}
 use Rattle.scenario.specs.Rows.{Row, introduced, points}
 use Rattle.scenario.specs.Fields.{Tagged}
 use Rattle.scenario.specs.Sheet.{Sheet, count}
-use Rattle.scenario.specs.Reading.{All, Counted}
+use Rattle.scenario.specs.Reading.{Counted}
 use Rattle.scenario.proofs.Base.{Order, lower, level, upper, order}
 use Rattle.scenario.proofs.Glue.{points-append}
 use Rattle.scenario.proofs.Numbers.{decode-fields}
 use Rattle.sheet.specs.declared.Answer.{Answer}
-use Rattle.sheet.specs.declared.Line.{Line}
-use Rattle.sheet.specs.declared.Stand.{Stand}
-use Rattle.sheet.specs.Row.{start, enter, sectionFits, roomFits, refusalWithin, refusal}
-use Rattle.sheet.specs.Reading.{after, rowIn, section, sections, sheetOf, taken, accepted, answer, sheetIn}
+use Rattle.row.specs.declared.Line.{Line}
+use Rattle.rules.specs.declared.Stand.{Stand}
+use Rattle.rules.specs.Rules.{start, enter, sectionFits, roomFits, refusalWithin, refusal}
+use Rattle.sheet.specs.Reading.{after, section, sections, sheetOf, taken, accepted, answer, sheetIn}
+use Rattle.row.specs.Row.{rowIn}
 use Rattle.sheet.specs.Text.{Fits, numbersOf, sheetText}
 use Rattle.sheet.specs.Valid.{rowsOf, sectionsOf, sheetFrom, preceding, Permitted, ValidRow, ValidSheet, rowsSpelt, ValidText}
 use Rattle.sheet.proofs.Accepted.{Passes, passes, enter-ante, enter-new, enter-own, enter-same, after-section, Fair, ante-after, cons-ante, cons-own, fair-after, fair-start, start-own, Accepted}

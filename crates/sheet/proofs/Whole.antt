@@ -2,16 +2,18 @@
 -- Assumes nothing.
 use mathlib.Core.Path.{_≡_, sym, ap, _∙_}
 use mathlib.Core.List.{List}
-use Prim.Native.Nat.{ℕ, _≤_, _<_}
+use Prim.Native.Nat.{ℕ, _≤_}
 use native.Mathlib.Omega.{arith}
 use lib.ListN.{length}
-use borrow.Author.Tests.{eq-eqb, ne-eqb, lt-ltb, le-ltb}
+use borrow.Author.Tests.{eq-eqb, ne-eqb}
 use Rattle.scenario.specs.Sheet.{count}
 use Rattle.sheet.specs.declared.Head.{Head}
-use Rattle.sheet.specs.Row.{start}
+use Rattle.rules.specs.Rules.{start}
 use Rattle.sheet.specs.Reading.{headOf, Taken, rowsFrom, sheetOf, taken, refused, accepted, closing, answer}
-use Rattle.sheet.specs.Memory.{lay, linesIn, product}
-use Rattle.sheet.proofs.Memory.{Good, head-good, rows-full, lines-back}
+use Rattle.row.specs.Memory.{lay, linesIn}
+use Rattle.sheet.specs.Count.{product}
+use Rattle.sheet.proofs.Memory.{Good, head-good, rows-full}
+use Rattle.row.proofs.Memory.{lines-back}
 use Rattle.sheet.proofs.Denials.{count-product}
 
 module _ (s : List ℕ) (h : Head) (e : h ≡ headOf s) where

@@ -1,20 +1,7 @@
--- Document 01's numbers for a sheet: its limits, and the refusals of "Read a sheet". What must be believed.
+-- Document 01's numbers for reading a sheet: the refusals of its first line and of a malformed row, and the largest N. What must be believed.
 -- Assumes nothing.
 use Prim.Native.Nat.{ℕ, _*_, _^_}
-
--- "consequents k (at most 6), row count (at most 176)"
-abbrev pub most-consequents : ℕ
-most-consequents = 6
-
-abbrev pub most-rows : ℕ
-most-rows = 176
-
--- "the antecedent (at most 32 rows), .. the consequents (at most 24 rows each)"
-abbrev pub most-antecedent-rows : ℕ
-most-antecedent-rows = 32
-
-abbrev pub most-consequent-rows : ℕ
-most-consequent-rows = 24
+use Rattle.rules.specs.Numbers.{most-rows}
 
 -- document 02, A4: the largest N, as a row has at most 2 denials, a consequent at most 24 rows, and there are at most 6 consequents
 abbrev pub most-antiscenarios : ℕ
@@ -39,27 +26,3 @@ wrong-length = 3
 -- 4 row malformed
 abbrev pub row-malformed : ℕ
 row-malformed = 4
-
--- 5 section above k or below the preceding row's
-abbrev pub wrong-section : ℕ
-wrong-section = 5
-
--- 6 kind unknown or not for this section
-abbrev pub wrong-kind : ℕ
-wrong-kind = 6
-
--- 7 p not the number due or not a permitted known point
-abbrev pub wrong-p : ℕ
-wrong-p = 7
-
--- 8 q, or a in kinds 4 and 5, not a permitted known point or not different
-abbrev pub wrong-q : ℕ
-wrong-q = 8
-
--- 9 an unused field not 0, an empty set, or a above b in kinds 10 and 11
-abbrev pub wrong-field : ℕ
-wrong-field = 9
-
--- 10 section too long
-abbrev pub section-too-long : ℕ
-section-too-long = 10

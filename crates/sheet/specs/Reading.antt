@@ -5,21 +5,22 @@ use mathlib.Core.List.{List, [], _∷_}
 use Prim.Native.Nat.{ℕ, zero, suc, _+_, _*_}
 use lib.ListN.{length, getD, take, drop}
 use lib.Dec.{ltb, eqb}
-use Rattle.sheet.specs.Numbers.{most-consequents, most-rows, first-line-malformed, over-limits, wrong-length, row-malformed}
+use Rattle.rules.specs.Numbers.{most-consequents, most-rows}
+use Rattle.sheet.specs.Numbers.{first-line-malformed, over-limits, wrong-length, row-malformed}
 use Rattle.columns.specs.Number.{fieldAt}
 use Rattle.columns.specs.declared.Field.{Field}
 use Rattle.columns.specs.declared.Field.the-variants.{Value, Bad}
 use Rattle.scenario.specs.Rows.{Row}
-use Rattle.scenario.specs.Fields.{rowOf}
 use Rattle.scenario.specs.Sheet.{Sheet, count}
-use Rattle.sheet.specs.declared.Line.{Line}
-use Rattle.sheet.specs.declared.Stand.{Stand}
+use Rattle.row.specs.declared.Line.{Line}
+use Rattle.rules.specs.declared.Stand.{Stand}
 use Rattle.sheet.specs.declared.Head.{Head}
 use Rattle.sheet.specs.declared.Answer.{Answer}
 use Rattle.sheet.specs.declared.SheetCount.{SheetCount}
-use Rattle.sheet.specs.declared.Parsed.{Parsed}
-use Rattle.sheet.specs.declared.Parsed.the-variants.{Row as Parsed·row, Malformed}
-use Rattle.sheet.specs.Row.{lineOf, start, enter, advance, refusal}
+use Rattle.row.specs.declared.Parsed.{Parsed}
+use Rattle.row.specs.declared.Parsed.the-variants.{Row as Parsed·row, Malformed}
+use Rattle.row.specs.Row.{lineOf, rowIn}
+use Rattle.rules.specs.Rules.{start, enter, advance, refusal}
 
 -- First line
 
@@ -76,12 +77,6 @@ rowsFrom k s i zero at = stop 0 0
 rowsFrom k s i (suc left) at =
     onLine (lineOf (rowBytes s i)) (stop row-malformed (suc i)) (λ l.
     cond (eqb (refusal k at l) 0) (more l (rowsFrom k s (suc i) left (after at l))) (stop (refusal k at l) (suc i)))
-
--- The sheet of the rows
-
--- the row of a line, with the fields that its kind mentions; kinds are known once the row is accepted
-unfoldable pub rowIn : Line → Row
-rowIn l = rowOf (l .kind) (l .p) (l .q) (l .a) (l .b)
 
 -- the rows of section i, in sheet order
 unfoldable pub section : ℕ → List Line → List Row

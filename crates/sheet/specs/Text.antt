@@ -7,8 +7,8 @@ use Rattle.columns.specs.Number.{largest}
 use Rattle.columns.specs.Spell.{spell}
 use Rattle.scenario.specs.Fields.{fields, Tagged, tagged}
 use Rattle.scenario.specs.Sheet.{Sheet}
-use Rattle.sheet.specs.declared.Line.{Line}
-use Rattle.sheet.specs.Row.{six}
+use Rattle.row.specs.declared.Line.{Line}
+use Rattle.row.specs.Row.{six}
 
 -- a row's numbers fit their columns, 3 or 11 of them, and a and b are no larger than a field holds
 pub record Fits (l : Line) : Type 0 where

@@ -9,7 +9,7 @@ use lib.ListN.{length}
 use lib.Dec.{T, eqb}
 use Rattle.scenario.specs.Rows.{Row, point, next, last, earlier, later, before, apart, same, free, within, outside, event, full-set, points, elem}
 use Rattle.scenario.specs.Fields.{Tagged}
-use Rattle.scenario.specs.Sheet.{Sheet, count}
+use Rattle.scenario.specs.Sheet.{Sheet}
 use Rattle.scenario.specs.Reading.{Ordinary, Counted}
 use Rattle.sheet.specs.Text.{numbersOf, sheetText}
 

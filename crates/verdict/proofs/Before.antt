@@ -7,7 +7,7 @@ use Prim.Native.Nat.{ℕ, zero, suc, _≤_}
 use native.Mathlib.Omega.{arith}
 use lib.Dec.{eqb}
 use borrow.Author.Tests.{eq-eqb}
-use Rattle.scenario.specs.Rows.{Row, set-of, full-half}
+use Rattle.scenario.specs.Rows.{set-of, full-half}
 use Rattle.scenario.specs.Log.{Log, runOf}
 use Rattle.scenario.specs.Fields.{Fields, Tagged, decode, rowOf}
 use Rattle.scenario.specs.Sheet.{Sheet, matching, antiscenario}
@@ -17,19 +17,19 @@ use Rattle.scenario.specs.Before.{Narrow, OldSheet, OldLog}
 use Rattle.scenario.proofs.Numbers.{any-kind}
 use Rattle.scenario.proofs.Halves.{set-of-lower}
 use Rattle.scenario.proofs.Before.{fields-same, count-same, matching-same, search-same}
-use Rattle.sheet.specs.declared.Line.{Line}
+use Rattle.row.specs.declared.Line.{Line}
 use Rattle.sheet.specs.declared.Answer.{Answer}
-use Rattle.sheet.specs.Row.{six}
-use Rattle.sheet.specs.Reading.{answer, taken, rowIn, sheetIn}
+use Rattle.row.specs.Row.{six, rowIn}
+use Rattle.sheet.specs.Reading.{answer, taken, sheetIn}
 use Rattle.sheet.specs.Text.{Fits, numbersOf, sheetText}
 use Rattle.sheet.specs.Valid.{rowsOf, sectionsOf, sheetFrom, rowsSpelt}
 use Rattle.sheet.proofs.Theorems.{tag, accepted-rows}
 use Rattle.sheet.proofs.Valid.{valid-read, read-valid, read-text}
 use Rattle.runlog.specs.declared.Answer.{Answer as LogAnswer}
-use Rattle.runlog.specs.Log.{answer as log-answer, logOf, runIn}
+use Rattle.runlog.specs.Log.{answer as log-answer, logOf}
 use Rattle.runlog.proofs.Theorems.{accepted-text, one-text}
-use Rattle.verdict.specs.Check.{Accepted, checkOf, verdictOf}
-use Rattle.verdict.specs.Before.{numbers-before, OldSheetText, NoUpperHalf, OldLogText, Kept, OldKept}
+use Rattle.verdict.specs.Check.{checkOf, verdictOf}
+use Rattle.verdict.specs.Before.{numbers-before, OldSheetText, NoUpperHalf, OldLogText, OldKept}
 
 -- the same numbers, row by row
 numbers-same : (rows : List Tagged) → All (λ (t : Tagged). Narrow (t .row)) rows → map numbers-before rows ≡ map numbersOf rows

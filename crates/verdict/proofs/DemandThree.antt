@@ -26,12 +26,12 @@ use Rattle.sheet.specs.Reading.{countIn, sheetIn, answer as sheet-answer}
 use Rattle.sheet.proofs.Theorems.{accepted-sheet}
 use Rattle.runlog.specs.Log.{runIn, logOf, answer as log-answer}
 use Rattle.runlog.proofs.Whole.{accepted-log}
-use Rattle.search.specs.Matching.{isFound, filled}
+use Rattle.placement.specs.Matching.{isFound}
+use Rattle.search.specs.Searching.{filled, SaysNone, searchOf, searched, Searched}
 use Rattle.verdict.specs.declared.Checked.{Checked}
 use Rattle.verdict.specs.Check.{Accepted, front, violatedAt, placementIn, rowsIn, verdictOf, checkOf}
 use Rattle.verdict.specs.Demands.{Denied, Unmatched, Enough, Finds, DemandThree}
 use Rattle.antiscenario.specs.Judge.{refusalOf}
-use Rattle.search.specs.Searching.{SaysNone, searchOf, searched, Searched}
 
 -- the first numbers are those of the first list
 take-front : (n : ℕ) (xs ys : List ℕ) → n ≤ length xs → take n (xs ++ ys) ≡ take n xs

@@ -13,7 +13,8 @@ use Rattle.scenario.specs.Log.{Log}
 use Rattle.scenario.specs.Fields.{Tagged, tagged}
 use Rattle.scenario.specs.Sheet.{choices, chosen, antiscenario, matching}
 use Rattle.scenario.proofs.InOrder.{sheet-denials-in-order}
-use Rattle.sheet.specs.Reading.{answer, rowIn, sheetIn, countIn}
+use Rattle.sheet.specs.Reading.{answer, sheetIn, countIn}
+use Rattle.row.specs.Row.{rowIn}
 use Rattle.sheet.specs.Text.{numbersOf}
 use Rattle.sheet.specs.Valid.{ValidSheet, ValidText as ValidSheetText}
 use Rattle.sheet.proofs.Theorems.{accepted-sheet}

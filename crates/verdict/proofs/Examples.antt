@@ -15,14 +15,14 @@ use Rattle.scenario.specs.Log as logs
 use Rattle.scenario.specs.Walk as walks
 use Rattle.scenario.specs.Search as searches
 use Rattle.scenario.specs.Fields as fields
-use Rattle.sheet.specs.Row as row
+use Rattle.row.specs.Row as row
+use Rattle.rules.specs.Rules as rules
 use Rattle.sheet.specs.Reading as reading
 use Rattle.sheet.specs.Text as text
 use Rattle.runlog.specs.Log as log
 use Rattle.antiscenario.specs.Write as writing
-use Rattle.antiscenario.specs.Build as building
+use Rattle.denial.specs.Build as building
 use Rattle.antiscenario.specs.Judge as judging
-use Rattle.search.specs.Matching as matchings
 use Rattle.search.specs.Searching as searching
 use Rattle.verdict.specs.Check.{front, violatedAt, verdictOf, checkOf, placementIn, rowsIn}
 
@@ -182,15 +182,15 @@ starred =
 pub starred-examples : map (λ (x : Example). answered (x .sheet) (x .log) (x .number)) starred ≡ map (λ (x : Example). x .answers) starred
 unfolding number.fieldAt number.numeral number.scan spelling.spell spelling.left spelling.leftByte spelling.lastByte
     text.sheetText text.headText text.rowsText text.rowText
-    reading.answer reading.taken reading.closing reading.headOf reading.rowsFrom reading.rowBytes reading.after reading.sheetOf reading.section reading.sections reading.rowIn
-    row.lineOf row.refusal row.sectionFits row.refusalWithin row.originFits row.kindFits row.pFits row.isDue row.ordinary row.known row.qFits row.knownBut row.ordinaryBut row.bothOrdinary row.restFits row.setOnly row.bothZero row.roomFits row.enter row.advance
+    reading.answer reading.taken reading.closing reading.headOf reading.rowsFrom reading.rowBytes reading.after reading.sheetOf reading.section reading.sections row.rowIn
+    row.lineOf rules.refusal rules.sectionFits rules.refusalWithin rules.originFits rules.kindFits rules.pFits rules.isDue rules.ordinary rules.known rules.qFits rules.knownBut rules.ordinaryBut rules.bothOrdinary rules.restFits rules.setOnly rules.bothZero rules.roomFits rules.enter rules.advance
     log.answer log.taken log.closing log.headOf log.linesFrom log.lineBytes log.lineOf log.logOf
     rows.denials rows.denying-rows rows.denying-free rows.end rows.far-end rows.closure rows.brings rows.elem rows.set-of rows.lower-half rows.upper-half rows.complement rows.meets rows.points rows.clear rows.below rows.between
     fields.decode fields.fields fields.tagged fields.written
     sheets.count sheets.total sheets.choices sheets.choose sheets.chosen sheets.flat sheets.antiscenario sheets.matching sheets.all sheets.is-line sheets.env sheets.lookup
     logs.inSet logs.hasAt logs.tick logs.sure logs.nearAt walks.placing walks.lowest-above walks.highest-below walks.advance walks.walk
     searches.sweep searches.least searches.smallest-matching searches.is-violating searches.check searches.faults
-    writing.writeOf writing.writtenText writing.writtenLines building.lineFrom text.numbersOf matchings.filled judging.refusalOf searching.searchOf
+    writing.writeOf writing.writtenText writing.writtenLines building.lineFrom text.numbersOf searching.filled judging.refusalOf searching.searchOf
     checkOf verdictOf violatedAt front
 starred-examples = refl
 

@@ -2,11 +2,8 @@ pub mod Demands
 pub mod DemandThree
 pub mod Before
 pub mod Unmoved
-pub mod Showing
-pub mod Bound
-pub mod Printing
-pub mod Steps
-pub mod Consequents
 pub mod Matchings
 pub mod Reading
 pub mod Examples
+pub mod Faults
+pub mod Few

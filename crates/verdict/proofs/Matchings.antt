@@ -6,8 +6,8 @@ use mathlib.Core.List.{List, [], _∷_, _++_, map, append-nil}
 use Prim.Native.Nat.{ℕ, zero, suc, _+_, _-_, _≤_, _<_}
 use native.Mathlib.Numerals.{add-one}
 use native.Mathlib.Omega.{arith}
-use lib.ListN.{length, getD, set, take, drop, replicate, length-map, length-append, getD-replicate}
-use lib.Seq.{take-at, getD-set-other}
+use lib.ListN.{length, getD, set, take, drop, replicate, length-map, length-append}
+use lib.Seq.{take-at}
 use lib.Dec.{T, eqb, not-T}
 use borrow.Author.Tests.{eq-eqb, ne-eqb}
 use Rattle.scenario.specs.Rows.{Row, Run, points, elem}
@@ -25,23 +25,26 @@ use Rattle.scenario.proofs.Prefix.{least-none}
 use Rattle.scenario.proofs.Reading.{sound}
 use Rattle.scenario.proofs.Agreement.{Base, is-start, is-close, is-antecedent}
 use Rattle.runlog.specs.Held.{Held, runAt}
-use Rattle.sheet.specs.Memory.{sectionAt, rowAt, listed, rowsOf, tagAt, tagsOf}
+use Rattle.row.specs.Memory.{sectionAt, rowAt, listed, rowsOf, tagAt, tagsOf}
 use Rattle.pattern.specs.Placing.{by}
-use Rattle.search.specs.Matching.{after, next-matching, isFound}
-use Rattle.search.specs.Placing.{dueOf, ready, planOf, Prepared, Fixture, Latest, Begun}
+use Rattle.placement.specs.Matching.{after, next-matching, isFound}
+use Rattle.plan.specs.Due.{ready}
+use Rattle.plan.specs.Tables.{point-count, row-count, pointsIn, slotsIn, Drawn}
+use Rattle.placement.specs.Placing.{Prepared, Fixture, Begun}
+use Rattle.placement.proofs.Starting.{blank as blank-env, first-places, unmatched, fixture as fixture-at, prepared as prepared-at}
 use Rattle.runlog.proofs.Logs.{seen-laws, part-length}
-use Rattle.search.proofs.Finding.{blank as blank-env, planned}
-use Rattle.search.proofs.Found.{search-none}
 use Rattle.scenario.proofs.Patterns.{antiscenario-pattern}
 use Rattle.verdict.specs.declared.Checked.{Checked}
-use Rattle.verdict.specs.declared.Faults.{Faults}
+use Rattle.consequent.specs.declared.Faults.{Faults}
 use Rattle.verdict.specs.Check.{front, violatedAt, verdictOf, blank}
-use Rattle.verdict.specs.Consequents.{faultsIn, Kept}
-use Rattle.verdict.specs.Memory.{sheetAt, SheetHeld, leading, AntecedentPrepared}
-use Rattle.verdict.proofs.Consequents.{tag, faults-length, all-halt, fault-rows, base-elsewhere}
-use Rattle.search.proofs.Steps.{never}
-use Rattle.search.proofs.Matchings.{lex-first, past, past-below}
-use Rattle.search.proofs.Turn.{still, turn-keeps, turn-none, turn-matches, turn-hit, turn-miss, turn-last, turn-on, turn-falls, point-small, point-on, passed-is, passed-keeps, passed-begun}
+use Rattle.consequent.specs.Walk.{faultsIn, Kept}
+use Rattle.sheet.specs.Held.{sheetAt, SheetHeld}
+use Rattle.verdict.specs.Memory.{leading, AntecedentPlanned}
+use Rattle.consequent.proofs.Walk.{tag, faults-length, base-elsewhere}
+use Rattle.verdict.proofs.Faults.{all-halt, fault-rows}
+use Rattle.plan.proofs.Due.{never}
+use Rattle.placement.proofs.Matchings.{lex-first, past, past-below}
+use Rattle.placement.proofs.Turn.{still, turn-keeps, turn-none, turn-matches, turn-hit, turn-miss, turn-last, turn-on, turn-falls, point-small, point-on, passed-is, passed-keeps, passed-begun}
 
 -- The antecedent's rows stand first.
 
@@ -111,19 +114,9 @@ module _ (rows : List ℕ) (count k : ℕ) (S : SheetHeld rows count k) where
   pub rows-pattern : (a : ℕ) → a ≡ length (whole-sheet .antecedent) → Pattern (rowsOf rows a)
   rows-pattern a e = subst Pattern (sym (ap (rowsOf rows) e ∙ antecedent-rows)) antecedent-pattern
 
-  -- what is prepared
-  pub antecedent-prepared : (ticks events : List ℕ) (n : ℕ) → Held ticks events n → (a : ℕ) → a ≡ length (whole-sheet .antecedent) → (pts : List ℕ) (np : ℕ) (slots : List ℕ)
-      → np ≡ length (points (rowsOf rows a)) → take np pts ≡ points (rowsOf rows a) → ((j : ℕ) → j < a → Latest pts np (dueOf slots j) (rowAt rows j)) → length pts ≡ 58
-      → AntecedentPrepared (runAt ticks events n) n rows count k a pts np slots
-  antecedent-prepared ticks events n H a e pts np slots en ep ed l = record {
-    antecedent-rows = ap (rowsOf rows) e ∙ antecedent-rows;
-    plan = planned ticks events n H rows a (rows-pattern a e) pts slots np en ep ed;
-    pattern = rows-pattern a e;
-    number = en;
-    front = ep;
-    roomy = omega (arith, en, rows-pattern a e .few);
-    few = omega (arith, e, antecedent-below, S .few);
-  }
+  -- the plan for so many rows is the antecedent's
+  pub antecedent-planned : (plan : List ℕ) → row-count plan ≡ length (whole-sheet .antecedent) → Drawn rows plan → AntecedentPlanned rows count k plan
+  antecedent-planned plan e D = record { antecedent-rows = ap (rowsOf rows) e ∙ antecedent-rows; drawn = D; pattern = rows-pattern (row-count plan) e; few = antecedent-small (row-count plan) e }
 
 -- One row more at the front
 
@@ -144,29 +137,26 @@ module _ (rows : List ℕ) (count j : ℕ) where
     unfolding leading listed
     lead-on z = rw more (simp (eq-eqb _ _ (sym es ∙ z), add-one))
 
-abbrev pub made : (p k : ℕ) (positions rows : List ℕ) → Checked
-made p k positions rows = record { refusal = 0; violated = true; points = p; consequents = k; positions = positions; rows = rows }
+-- an answer's numbers and arrays, where violated
+abbrev pub violatedBy : (p k : ℕ) (positions rows : List ℕ) → Checked
+violatedBy p k positions rows = record { refusal = 0; violated = true; points = p; consequents = k; positions = positions; rows = rows }
 
-checked-same : (p q k l : ℕ) (a b r s : List ℕ) → p ≡ q → k ≡ l → a ≡ b → r ≡ s → made p k a r ≡ made q l b s
+checked-same : (p q k l : ℕ) (a b r s : List ℕ) → p ≡ q → k ≡ l → a ≡ b → r ≡ s → violatedBy p k a r ≡ violatedBy q l b s
 checked-same p q k l a b r s e f g h = rw (e, f, g, h)
 
 -- what going past a placement says of the number of points
-pub no-points : (np : ℕ) (r : Bool) → r ≡ not (eqb np 0) → r ≡ false → np ≡ 0
+pub no-points : (number : ℕ) (r : Bool) → r ≡ not (eqb number 0) → r ≡ false → number ≡ 0
 no-points zero r e f = refl
-no-points (suc np) r e f = never (sym f ∙ e ∙ ap not (ne-eqb (suc np) 0 (λ z. omega arith)))
+no-points (suc number) r e f = never (sym f ∙ e ∙ ap not (ne-eqb (suc number) 0 (λ z. omega arith)))
 
-pub some-points : (np : ℕ) (r : Bool) → r ≡ not (eqb np 0) → r ≡ true → np ≡ 0 → ⊥
+pub some-points : (number : ℕ) (r : Bool) → r ≡ not (eqb number 0) → r ≡ true → number ≡ 0 → ⊥
 some-points zero r e t z = let z : _≡_ {A = ℕ} 0 1 = cc in absurd (omega arith)
-some-points (suc np) r e t z = omega arith
-
--- every point but the close stands at 0 at the start
-blank-zero : (n m : ℕ) → (m ≡ 99 → ⊥) → m < 100 → getD (blank-env (n + 1)) m 0 ≡ 0
-blank-zero n m h l = getD-set-other (replicate 100 0) 99 m (n + 1) 0 h ∙ getD-replicate 100 m 0 0 l
+some-points (suc number) r e t z = omega arith
 
 -- The loop
 
-module _ (ticks events : List ℕ) (n : ℕ) (H : Held ticks events n) (rows : List ℕ) (count k : ℕ) (S : SheetHeld rows count k) (antecedent : ℕ) (pts : List ℕ) (np : ℕ) (slots : List ℕ)
-    (P : AntecedentPrepared (runAt ticks events n) n rows count k antecedent pts np slots) where
+module _ (ticks events : List ℕ) (n : ℕ) (H : Held ticks events n) (rows : List ℕ) (count k : ℕ) (S : SheetHeld rows count k) (plan : List ℕ)
+    (P : AntecedentPlanned rows count k plan) where
   abbrev pub run : Run
   run = runAt ticks events n
 
@@ -174,7 +164,7 @@ module _ (ticks events : List ℕ) (n : ℕ) (H : Held ticks events n) (rows : L
   sheet = sheetAt rows count k
 
   abbrev pub rs : List Row
-  rs = rowsOf rows antecedent
+  rs = rowsOf rows (row-count plan)
 
   L : Laws run
   L = seen-laws ticks events n H
@@ -184,30 +174,26 @@ module _ (ticks events : List ℕ) (n : ℕ) (H : Held ticks events n) (rows : L
   only xs t = subst (λ (z : List Row). T (matching run z xs)) (sym (P .antecedent-rows)) (both (matching run (sheet .antecedent) xs) (all (λ c. stopped (walk run (env run (points (sheet .antecedent)) xs) c)) (sheet .consequents)) t .0)
 
   pub fixture : Fixture run (blank-env (n + 1))
-  fixture = record { start = refl; close = rw (part-length events n (H .lines .room), add-one n); size = refl }
+  fixture = fixture-at ticks events n H rows plan (P .drawn) (P .pattern)
 
-  pub prepared : ready run rows slots antecedent (blank-env (n + 1)) 0 ≡ true → Prepared run n rows slots antecedent pts np (blank-env (n + 1))
-  prepared e = record { plan = P .plan; pattern = P .pattern; number = P .number; front = P .front; roomy = P .roomy; few = P .few; ready = e; fixed = fixture }
+  pub prepared : ready run rows (slotsIn plan) (row-count plan) (blank-env (n + 1)) 0 ≡ true → Prepared run n rows plan (blank-env (n + 1))
+  prepared e = prepared-at ticks events n H rows plan (P .drawn) (P .pattern) (P .few) e
 
-  all-at-points : (X : ℕ → Type 0) → ((m : ℕ) → Ordinary m → m < 100 → X (getD (blank-env (n + 1)) m 0)) → All X (map (by (blank-env (n + 1))) (points rs))
-  all-at-points X h = go (points rs) (all-map (λ m q. h m (q .0) (q .1)) (points rs) (P .pattern .plain))
-    where
-      go : (l : List ℕ) → All (λ (m : ℕ). X (getD (blank-env (n + 1)) m 0)) l → All X (map (by (blank-env (n + 1))) l)
-      go [] q = tt
-      go (m ∷ l) q = (q .0, go l (q .1))
+  -- every point but the close stands at 0 at the start
+  zeros : All (λ (z : ℕ). z ≡ 0) (map (by (blank-env (n + 1))) (points rs))
+  zeros = first-places (n + 1) (points rs) (all-map (λ m q. q .0) (points rs) (P .pattern .plain))
 
   pub holds : check run sheet ≡ nothing → blank 0 ≡ verdictOf run sheet (check run sheet)
   unfolding verdictOf
   holds e = rw e
 
   -- a row without points is not met: there is no matching
-  pub unready : ready run rows slots antecedent (blank-env (n + 1)) 0 ≡ false → check run sheet ≡ nothing
+  pub unready : ready run rows (slotsIn plan) (row-count plan) (blank-env (n + 1)) 0 ≡ false → check run sheet ≡ nothing
   unfolding check
   unready e = least-none (run .lines) (length (points (sheet .antecedent))) (is-violating run sheet) (λ xs t. no-match xs (only xs t))
     where
       none : smallest-matching run rs ≡ nothing
-      none = search-none (planOf run n rows slots antecedent pts) rs (P .plan) (all-map (λ m h. h .0) (points rs) (P .pattern .plain)) (P .pattern .once) (blank-env (n + 1)) (fixture .start) (fixture .close)
-          (subst (λ (t : Bool). T (not t)) (sym e) tt)
+      none = unmatched ticks events n H rows plan (P .drawn) (P .pattern) e
 
       no-match : (xs : List ℕ) → T (matching run rs xs) → ⊥
       no-match xs t = subst (Says (λ zs. T (matching run rs zs))) none (search-says run rs) xs t
@@ -228,12 +214,9 @@ module _ (ticks events : List ℕ) (n : ℕ) (H : Held ticks events n) (rows : L
       zs : List ℕ
       zs = map (by (blank-env (n + 1))) (points rs)
 
-      zeros : All (λ (z : ℕ). z ≡ 0) zs
-      zeros = all-at-points (λ (z : ℕ). z ≡ 0) (λ m q l. blank-zero n m (q .not-close) l)
-
   -- positions at the start are few
   pub begin-below : All (λ (x : ℕ). x < run .lines + 2) (map (by (blank-env (n + 1))) (points rs))
-  begin-below = all-at-points (λ (x : ℕ). x < run .lines + 2) (λ m q l. omega (arith, blank-zero n m (q .not-close) l))
+  begin-below = all-map (λ x e. omega arith) (map (by (blank-env (n + 1))) (points rs)) zeros
 
   -- A placement that is a matching of the antecedent
   module _ (E : List ℕ) (F : Fixture run E) (m : T (matching run rs (map (by E) (points rs)))) (f : Faults) (ef : f ≡ faultsIn run (tagsOf rows count) E 0 k (replicate 6 0)) where
@@ -267,20 +250,20 @@ module _ (ticks events : List ℕ) (n : ℕ) (H : Held ticks events n) (rows : L
     unfolding is-violating
     miss e = not-T (matching run (sheet .antecedent) xs && stuck) (λ t. subst T (sym all-are ∙ e) (both (matching run (sheet .antecedent) xs) stuck t .1))
 
-    pub answered : f .all ≡ true → (at : List ℕ) → at ≡ map (by E) (take np pts) ++ drop np (replicate 4 0)
+    pub answered : f .all ≡ true → (at : List ℕ) → at ≡ map (by E) (take (point-count plan) (pointsIn plan)) ++ drop (point-count plan) (replicate 4 0)
         → check run sheet ≡ found xs
-        → made np k at (f .rows) ≡ verdictOf run sheet (check run sheet)
+        → violatedBy (point-count plan) k at (f .rows) ≡ verdictOf run sheet (check run sheet)
     unfolding verdictOf violatedAt front
     answered e at ea ec =
-        let size : length xs ≡ np = length-map (points rs) (by E) ∙ sym (P .number) in
-        let place : at ≡ xs ++ drop (length xs) (replicate 4 0) = ea ∙ ap₂ (λ (u : List ℕ) (v : ℕ). map (by E) u ++ drop v (replicate 4 0)) (P .front) (sym size) in
+        let size : length xs ≡ point-count plan = length-map (points rs) (by E) ∙ sym (P .drawn .number) in
+        let place : at ≡ xs ++ drop (length xs) (replicate 4 0) = ea ∙ ap₂ (λ (u : List ℕ) (v : ℕ). map (by E) u ++ drop v (replicate 4 0)) (P .drawn .front) (sym size) in
         let lines : f .rows ≡ front 6 (faults run sheet xs (length (sheet .antecedent)) (sheet .consequents)) = ap (λ (z : Faults). z .rows) ef ∙ fault-rows run L sheet (tagsOf rows count) xs E (F .size) agree (sound sheet (S .read)) (S .read .count) (S .tags) k (S .consequents) (subst T (sym (sym all-are ∙ e)) tt) in
         let fs = faults run sheet xs (length (sheet .antecedent)) (sheet .consequents) in
-        checked-same np (length xs) k (length fs) at (front 4 xs) (f .rows) (front 6 fs) (sym size) (sym (faults-length run sheet xs (sheet .consequents) (length (sheet .antecedent)) ∙ S .consequents)) place lines
+        checked-same (point-count plan) (length xs) k (length fs) at (front 4 xs) (f .rows) (front 6 fs) (sym size) (sym (faults-length run sheet xs (sheet .consequents) (length (sheet .antecedent)) ∙ S .consequents)) place lines
         ∙ ap (verdictOf run sheet) (sym ec)
 
   -- A turn of the loop: E is the array before, r and E' what going on to the next matching gives.
-  module _ (re : ready run rows slots antecedent (blank-env (n + 1)) 0 ≡ true) (E : List ℕ) (F : Fixture run E)
+  module _ (re : ready run rows (slotsIn plan) (row-count plan) (blank-env (n + 1)) 0 ≡ true) (E : List ℕ) (F : Fixture run E)
       (inv : least (run .lines) (length (points rs)) (λ ys. no-larger (map (by E) (points rs)) ys && is-violating run sheet ys) ≡ check run sheet)
       (r : Bool) (E' : List ℕ) (er : r ≡ isFound (next-matching run rs (map (by E) (points rs)))) (ee : E' ≡ after E (points rs) (next-matching run rs (map (by E) (points rs)))) where
     abbrev up : Answer
@@ -290,18 +273,18 @@ module _ (ticks events : List ℕ) (n : ℕ) (H : Held ticks events n) (rows : L
     moved X h = subst X (sym ee) h
 
     pub loop-none : r ≡ false → blank 0 ≡ verdictOf run sheet (check run sheet)
-    loop-none q = holds (sym inv ∙ turn-none run n rows slots antecedent pts np (blank-env (n + 1)) (prepared re) (is-violating run sheet) only E F up refl (sym er ∙ q))
+    loop-none q = holds (sym inv ∙ turn-none run n rows plan (blank-env (n + 1)) (prepared re) (is-violating run sheet) only E F up refl (sym er ∙ q))
 
     pub loop-keeps : Fixture run E'
-    loop-keeps = moved (Fixture run) (turn-keeps run n rows slots antecedent pts np (blank-env (n + 1)) (prepared re) (is-violating run sheet) only E F up)
+    loop-keeps = moved (Fixture run) (turn-keeps run n rows plan (blank-env (n + 1)) (prepared re) (is-violating run sheet) only E F up)
 
     module _ (t : r ≡ true) where
       loop-on : All (λ (x : ℕ). (1 ≤ x) × (x ≤ run .lines)) (map (by E') (points rs))
       loop-on = moved (λ z. All (λ (x : ℕ). (1 ≤ x) × (x ≤ run .lines)) (map (by z) (points rs)))
-          (turn-on run n rows slots antecedent pts np (blank-env (n + 1)) (prepared re) (is-violating run sheet) only E F up refl (sym er ∙ t))
+          (turn-on run n rows plan (blank-env (n + 1)) (prepared re) (is-violating run sheet) only E F up refl (sym er ∙ t))
 
       match-there : T (matching run rs (map (by E') (points rs)))
-      match-there = moved (λ z. T (matching run rs (map (by z) (points rs)))) (turn-matches run n rows slots antecedent pts np (blank-env (n + 1)) (prepared re) (is-violating run sheet) only E F up refl (sym er ∙ t))
+      match-there = moved (λ z. T (matching run rs (map (by z) (points rs)))) (turn-matches run n rows plan (blank-env (n + 1)) (prepared re) (is-violating run sheet) only E F up refl (sym er ∙ t))
 
       -- f is what the walk over the consequents says, and E″ what it leaves.
       module _ (f : Faults) (ef : f ≡ faultsIn run (tagsOf rows count) E' 0 k (replicate 6 0)) (E″ : List ℕ) (K : Kept (tagsOf rows count) E' E″) where
@@ -316,17 +299,17 @@ module _ (ticks events : List ℕ) (n : ℕ) (H : Held ticks events n) (rows : L
         walk-keeps = record { start = base-kept 0 (is-start refl) ∙ loop-keeps .start; close = base-kept 99 (is-close refl) ∙ loop-keeps .close; size = K .size ∙ loop-keeps .size }
 
         -- room to go past it
-        pub loop-room : (i : ℕ) → i < np → (getD pts i 0 < 100) × (getD E″ (getD pts i 0) 0 ≤ 4000)
+        pub loop-room : (i : ℕ) → i < point-count plan → (getD (pointsIn plan) i 0 < 100) × (getD E″ (getD (pointsIn plan) i 0) 0 ≤ 4000)
         loop-room i h = (
-          point-small run n rows slots antecedent pts np (blank-env (n + 1)) (prepared re) (is-violating run sheet) only i h,
-          omega (arith, point-on run n rows slots antecedent pts np (blank-env (n + 1)) (prepared re) (is-violating run sheet) only E″ (subst (All (λ (x : ℕ). (1 ≤ x) × (x ≤ run .lines))) (sym places-kept) loop-on) i h .1, part-length events n (H .lines .room), H .lines .few),
+          point-small run n rows plan (blank-env (n + 1)) (prepared re) (is-violating run sheet) only i h,
+          omega (arith, point-on run n rows plan (blank-env (n + 1)) (prepared re) (is-violating run sheet) only E″ (subst (All (λ (x : ℕ). (1 ≤ x) × (x ≤ run .lines))) (sym places-kept) loop-on) i h .1, part-length events n (H .lines .room), H .lines .few),
         )
 
-        pub loop-hit : f .all ≡ true → (at : List ℕ) → at ≡ map (by E″) (take np pts) ++ drop np (replicate 4 0)
-            → made np k at (f .rows) ≡ verdictOf run sheet (check run sheet)
+        pub loop-hit : f .all ≡ true → (at : List ℕ) → at ≡ map (by E″) (take (point-count plan) (pointsIn plan)) ++ drop (point-count plan) (replicate 4 0)
+            → violatedBy (point-count plan) k at (f .rows) ≡ verdictOf run sheet (check run sheet)
         loop-hit e at ea = answered E' loop-keeps match-there f ef e at
-            (ea ∙ ap (λ (z : List ℕ). z ++ drop np (replicate 4 0)) (ap (map (by E″)) (P .front) ∙ places-kept ∙ ap (map (by E')) (sym (P .front))))
-            (sym inv ∙ turn-hit run n rows slots antecedent pts np (blank-env (n + 1)) (prepared re) (is-violating run sheet) only E F up refl (sym er ∙ t)
+            (ea ∙ ap (λ (z : List ℕ). z ++ drop (point-count plan) (replicate 4 0)) (ap (map (by E″)) (P .drawn .front) ∙ places-kept ∙ ap (map (by E')) (sym (P .drawn .front))))
+            (sym inv ∙ turn-hit run n rows plan (blank-env (n + 1)) (prepared re) (is-violating run sheet) only E F up refl (sym er ∙ t)
             (subst (λ (z : List ℕ). T (is-violating run sheet (map (by z) (points rs)))) ee (hit E' loop-keeps match-there f ef e))
             ∙ ap (λ (z : List ℕ). found (map (by z) (points rs))) (sym ee))
 
@@ -334,29 +317,29 @@ module _ (ticks events : List ℕ) (n : ℕ) (H : Held ticks events n) (rows : L
         missed e = subst (λ (z : List ℕ). T (not (is-violating run sheet (map (by z) (points rs))))) ee (miss E' loop-keeps match-there f ef e)
 
         -- without points there is no other
-        pub loop-last : f .all ≡ false → np ≡ 0 → blank 0 ≡ verdictOf run sheet (check run sheet)
-        loop-last e z = holds (sym inv ∙ turn-last run n rows slots antecedent pts np (blank-env (n + 1)) (prepared re) (is-violating run sheet) only E F up refl (sym er ∙ t) (missed e) (sym (P .number) ∙ z))
+        pub loop-last : f .all ≡ false → point-count plan ≡ 0 → blank 0 ≡ verdictOf run sheet (check run sheet)
+        loop-last e z = holds (sym inv ∙ turn-last run n rows plan (blank-env (n + 1)) (prepared re) (is-violating run sheet) only E F up refl (sym er ∙ t) (missed e) (sym (P .drawn .number) ∙ z))
 
         -- gone past it
-        module _ (nz : np ≡ 0 → ⊥) (E‴ : List ℕ) (ep : E‴ ≡ set E″ (getD pts (np - 1) 0) (getD E″ (getD pts (np - 1) 0) 0 + 1)) where
+        module _ (nz : point-count plan ≡ 0 → ⊥) (E‴ : List ℕ) (ep : E‴ ≡ set E″ (getD (pointsIn plan) (point-count plan - 1) 0) (getD E″ (getD (pointsIn plan) (point-count plan - 1) 0) 0 + 1)) where
           some : length (points rs) ≡ 0 → ⊥
-          some z = nz (P .number ∙ z)
+          some z = nz (P .drawn .number ∙ z)
 
           passed : map (by E‴) (points rs) ≡ past (map (by E') (points rs))
-          passed = ap (λ (z : List ℕ). map (by z) (points rs)) ep ∙ passed-is run n rows slots antecedent pts np (blank-env (n + 1)) (prepared re) (is-violating run sheet) only some E″ walk-keeps ∙ ap past places-kept
+          passed = ap (λ (z : List ℕ). map (by z) (points rs)) ep ∙ passed-is run n rows plan (blank-env (n + 1)) (prepared re) (is-violating run sheet) only some E″ walk-keeps ∙ ap past places-kept
 
           pub loop-miss : f .all ≡ false → least (run .lines) (length (points rs)) (λ ys. no-larger (map (by E‴) (points rs)) ys && is-violating run sheet ys) ≡ check run sheet
           loop-miss e =
               ap (λ (z : List ℕ). least (run .lines) (length (points rs)) (λ ys. no-larger z ys && is-violating run sheet ys)) (passed ∙ ap (λ (z : List ℕ). past (map (by z) (points rs))) ee)
-              ∙ sym (turn-miss run n rows slots antecedent pts np (blank-env (n + 1)) (prepared re) (is-violating run sheet) only E F up refl (sym er ∙ t) (missed e) some)
+              ∙ sym (turn-miss run n rows plan (blank-env (n + 1)) (prepared re) (is-violating run sheet) only E F up refl (sym er ∙ t) (missed e) some)
               ∙ inv
 
           pub pass-keeps : Fixture run E‴
-          pass-keeps = subst (Fixture run) (sym ep) (passed-keeps run n rows slots antecedent pts np (blank-env (n + 1)) (prepared re) (is-violating run sheet) only some E″ walk-keeps)
+          pass-keeps = subst (Fixture run) (sym ep) (passed-keeps run n rows plan (blank-env (n + 1)) (prepared re) (is-violating run sheet) only some E″ walk-keeps)
 
-          pub pass-begun : Begun run n rows slots antecedent pts np E‴
-          pass-begun = subst (Begun run n rows slots antecedent pts np) (sym ep)
-              (passed-begun run n rows slots antecedent pts np (blank-env (n + 1)) (prepared re) (is-violating run sheet) only some E″ walk-keeps (subst (λ (z : List ℕ). T (matching run rs z)) (sym places-kept) match-there))
+          pub pass-begun : Begun run n rows plan E‴
+          pass-begun = subst (Begun run n rows plan) (sym ep)
+              (passed-begun run n rows plan (blank-env (n + 1)) (prepared re) (is-violating run sheet) only some E″ walk-keeps (subst (λ (z : List ℕ). T (matching run rs z)) (sym places-kept) match-there))
 
           pub pass-below : All (λ (x : ℕ). x < run .lines + 2) (map (by E‴) (points rs))
           pass-below = subst (All (λ (x : ℕ). x < run .lines + 2)) (sym passed)
@@ -364,4 +347,4 @@ module _ (ticks events : List ℕ) (n : ℕ) (H : Held ticks events n) (rows : L
 
           pub loop-falls : All (λ (x : ℕ). x < run .lines + 2) (map (by E) (points rs)) → still (run .lines) (length (points rs)) (map (by E‴) (points rs)) < still (run .lines) (length (points rs)) (map (by E) (points rs))
           loop-falls h = subst (λ (z : List ℕ). still (run .lines) (length (points rs)) z < still (run .lines) (length (points rs)) (map (by E) (points rs))) (sym (passed ∙ ap (λ (z : List ℕ). past (map (by z) (points rs))) ee))
-              (turn-falls run n rows slots antecedent pts np (blank-env (n + 1)) (prepared re) (is-violating run sheet) only E F up refl (sym er ∙ t) h some)
+              (turn-falls run n rows plan (blank-env (n + 1)) (prepared re) (is-violating run sheet) only E F up refl (sym er ∙ t) h some)

@@ -1,20 +1,17 @@
 -- What reading leaves in memory is the sheet and the log that the check asks for.
 -- Assumes nothing.
 use mathlib.Core.Path.{_≡_, sym, _∙_, ap, ap₂, subst}
-use mathlib.Core.List.{List, _∷_, map}
-use Prim.Native.Nat.{ℕ, _-_, _≤_}
+use mathlib.Core.List.{List}
+use Prim.Native.Nat.{ℕ, _≤_}
 use native.Mathlib.Omega.{arith}
 use lib.ListN.{length, replicate}
 use borrow.Author.Tests.{eq-eqb, ne-eqb}
 use Rattle.scenario.specs.Log.{Log, runOf}
 use Rattle.scenario.specs.Sheet.{Sheet}
 use Rattle.scenario.specs.Search.{check}
-use Rattle.scenario.specs.Fields.{tagged}
-use Rattle.scenario.specs.Reading.{SheetRead}
-use Rattle.sheet.specs.Reading.{sheetIn, sheetOf, taken as sheet-taken, answer as sheet-answer}
-use Rattle.sheet.specs.Memory.{lineIn, linesIn, lay as lay-rows, rowAt, tagsOf}
-use Rattle.sheet.proofs.Memory.{listed-lines}
-use Rattle.sheet.proofs.Theorems.{tag as tag-line, accepted-sheet, few-rows}
+use Rattle.sheet.specs.Reading.{taken as sheet-taken, answer as sheet-answer}
+use Rattle.row.specs.Memory.{lay as lay-rows}
+use Rattle.sheet.proofs.Held.{sheet-is, sheet-loaded}
 use Rattle.runlog.specs.declared.Answer.{Answer}
 use Rattle.runlog.specs.Log.{answer}
 use Rattle.runlog.specs.Held.{Held, runAt, Loaded}
@@ -23,29 +20,8 @@ use Rattle.sheet.specs.declared.Answer.{Answer as SheetAnswer}
 use Rattle.verdict.specs.Check.{verdictOf, blank, checkOf, Accepted}
 use Rattle.verdict.specs.Demands.{DemandThree}
 use Rattle.verdict.proofs.DemandThree.{check-is, demand-bytes}
-use Rattle.verdict.specs.Memory.{sheetAt, SheetHeld}
+use Rattle.sheet.specs.Held.{sheetAt, SheetHeld}
 use Rattle.search.specs.Searching.{searchOf}
-
--- The sheet
-
-module _ (s : List ℕ) (e : sheet-answer s .refusal ≡ 0) (m₀ m : List ℕ) (room : 1056 ≤ length m₀) (em : m ≡ lay-rows 0 (sheet-taken s .lines) m₀) where
-  lines-back : linesIn m 0 (sheet-answer s .rows) ≡ sheet-taken s .lines
-  lines-back = ap (λ (z : List ℕ). linesIn z 0 (sheet-answer s .rows)) em ∙ accepted-sheet s e .memory m₀ room
-
-  pub sheet-is : sheetAt m (sheet-answer s .rows) (sheet-answer s .k) ≡ sheetIn s
-  sheet-is = ap (sheetOf (sheet-answer s .k)) lines-back
-
-  tags-are : tagsOf m (sheet-answer s .rows) ≡ tagged 0 (sheetIn s .antecedent ∷ sheetIn s .consequents)
-  unfolding tagsOf rowAt lineIn
-  tags-are = listed-lines tag-line m (sheet-answer s .rows) 0 ∙ ap (map tag-line) lines-back ∙ sym (accepted-sheet s e .rows)
-
-  pub sheet-held : SheetHeld m (sheet-answer s .rows) (sheet-answer s .k)
-  sheet-held = record {
-    read = subst SheetRead (sym sheet-is) (accepted-sheet s e .read);
-    tags = tags-are ∙ ap (λ (z : Sheet). tagged 0 (z .antecedent ∷ z .consequents)) (sym sheet-is);
-    few = few-rows s e;
-    consequents = ap (λ (z : Sheet). length (z .consequents)) sheet-is ∙ accepted-sheet s e .consequents;
-  }
 
 -- The check over bytes, by how it ends
 
@@ -74,20 +50,13 @@ module _ (s l : List ℕ) where
     held-here = subst (λ (q : Answer). Held ticks events (q .n)) (sym el) (D .held)
 
     pub sheet-held-here : SheetHeld m (rs .rows) (rs .k)
-    sheet-held-here = subst (λ (q : SheetAnswer). SheetHeld m (q .rows) (q .k)) (sym es) (sheet-held s sheet-taken-in m₀ m room em)
-
-    pub small-rows : rs .rows ≤ 176
-    small-rows = sheet-held-here .few
-
-    pub small-lines : rl .n ≤ 4000
-    small-lines = held-here .lines .few
+    sheet-held-here = sheet-loaded s rs es zs m m₀ room em .held
 
     pub checked : (c : Checked) → c ≡ verdictOf (runAt ticks events (rl .n)) (sheetAt m (rs .rows) (rs .k)) (check (runAt ticks events (rl .n)) (sheetAt m (rs .rows) (rs .k))) → c ≡ checkOf s l
     checked c ec =
         ec
         ∙ ap (λ (q : Answer). verdictOf (runAt ticks events (q .n)) (sheetAt m (rs .rows) (rs .k)) (check (runAt ticks events (q .n)) (sheetAt m (rs .rows) (rs .k)))) el
-        ∙ ap (λ (q : SheetAnswer). verdictOf (runAt ticks events (answer l .n)) (sheetAt m (q .rows) (q .k)) (check (runAt ticks events (answer l .n)) (sheetAt m (q .rows) (q .k)))) es
-        ∙ ap₂ (λ (g : Log) (z : Sheet). verdictOf (runOf g) z (check (runOf g) z)) (D .is) (sheet-is s sheet-taken-in m₀ m room em)
+        ∙ ap₂ (λ (g : Log) (z : Sheet). verdictOf (runOf g) z (check (runOf g) z)) (D .is) (sheet-is s rs es zs m m₀ room em)
         ∙ sym (check-is s l (record { sheet = sheet-taken-in; log = log-taken-in }))
 
 pub zeros : 1056 ≤ length {A = ℕ} (replicate 1200 0)

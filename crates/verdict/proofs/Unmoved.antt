@@ -4,14 +4,13 @@ use mathlib.Core.Path.{_≡_, refl, _∙_, ap}
 use mathlib.Core.List.{List}
 use Prim.Native.Nat.{ℕ}
 use lib.ListN.{length}
-use Rattle.scenario.specs.Sheet.{Sheet, Answer, nothing, found}
+use Rattle.scenario.specs.Sheet.{Answer, nothing, found}
 use Rattle.scenario.specs.Search.{check}
-use Rattle.scenario.specs.Log.{Log}
 use Rattle.scenario.specs.Clock.{plainRun, UnmovedSheet}
 use Rattle.scenario.proofs.Unmoved.{check-unmoved, faults-unmoved, matchings-unmoved, search-unmoved}
 use Rattle.sheet.specs.Reading.{sheetIn}
 use Rattle.runlog.specs.Log.{logOf, runIn}
-use Rattle.verdict.specs.Check.{Accepted, checkOf, verdictOf, violatedAt}
+use Rattle.verdict.specs.Check.{Accepted, verdictOf, violatedAt}
 use Rattle.verdict.specs.Unmoved.{Stays}
 use Rattle.verdict.proofs.DemandThree.{check-is}
 

@@ -9,8 +9,8 @@ use Rattle.scenario.specs.Sheet.{Sheet, matching, antiscenario}
 use Rattle.scenario.specs.Search.{check, smallest-matching}
 use Rattle.scenario.specs.Reading.{All}
 use Rattle.scenario.specs.Before.{OldLog, Narrow, fields-before, count-before, antiscenario-before}
-use Rattle.sheet.specs.declared.Line.{Line}
-use Rattle.sheet.specs.Row.{six}
+use Rattle.row.specs.declared.Line.{Line}
+use Rattle.row.specs.Row.{six}
 use Rattle.sheet.specs.Reading.{sheetIn, countIn}
 use Rattle.sheet.specs.Text.{sheetText}
 use Rattle.sheet.specs.Valid.{ValidSheet, sheetFrom}

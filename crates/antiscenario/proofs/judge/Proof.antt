@@ -1,52 +1,110 @@
--- `judge` meets its contract: what stands in memory is antiscenario m and the log, whose points are counted and whose rows are met or not.
+-- `judge` meets its contract: what stands in memory is the antiscenario and the log, whose points are counted and whose rows are met or not.
 -- Assumes nothing.
-use Rattle.antiscenario.proofs.Judging.{judge-refused, wrong-number, judged, promised}
-use Rattle.antiscenario.proofs.Writing.{room-1200}
-use Rattle.runlog.proofs.Loading.{all-zeros}
+use mathlib.Core.Path.{_≡_, _∙_}
+use mathlib.Core.List.{List}
+use Prim.Native.Nat.{ℕ}
 use native.Mathlib.Omega.{arith}
-use mathlib.Core.Path.{_∙_}
+use lib.ListN.{take}
+use Rattle.runlog.proofs.Loading.{all-zeros}
+use Rattle.antiscenario.specs.declared.Judged.{Judged}
+use Rattle.antiscenario.specs.Held.{Ready}
+use Rattle.antiscenario.specs.Judge.{judgeOf}
+use Rattle.antiscenario.proofs.InMemory.{room-1200}
+use Rattle.antiscenario.proofs.Judging.{judge-refused, wrong-number, judged, promised}
 use borrow.Author.Needs.{needs}
 use Rattle.antiscenario.proofs.judge.Statement.{statement}
 use Rattle.antiscenario.proofs.judge.Tie as tie
 
-load-antiscenario-requires : tie.Need-load-antiscenario-requires
-load-antiscenario-requires c κs = (room-1200, search needs, search needs, all-zeros 4001)
+-- What was handed over, and what reading gave and left in memory
+module _ (c : tie.After-load-antiscenario) where
+  abbrev start : tie.Start
+  start = c .before .before .before .before .before .before
+
+  abbrev sheet : List ℕ
+  sheet = start .args .sheet .now
+
+  abbrev log : List ℕ
+  log = start .args .log .now
+
+  abbrev number : ℕ
+  number = start .args .number
+
+  abbrev positions : List ℕ
+  positions = start .args .t4 .positions
+
+  abbrev position-count : ℕ
+  position-count = start .args .t4 .count
+
+  abbrev refusal : ℕ
+  refusal = c .load-antiscenario .result .refusal
+
+  abbrev rows : List ℕ
+  rows = c .load-antiscenario .last .1 .1 .1 .0
+
+  abbrev ticks : List ℕ
+  ticks = c .load-antiscenario .last .1 .1 .1 .1 .0
+
+  abbrev events : List ℕ
+  events = c .load-antiscenario .last .1 .1 .1 .1 .1 .0
+
+  abbrev count : ℕ
+  count = c .load-antiscenario .result .rows
+
+  abbrev lines : ℕ
+  lines = c .load-antiscenario .result .lines
+
+  -- an answer that is the definition's is what was promised
+  answered : (r : Judged) → r ≡ judgeOf sheet log number positions position-count
+      → (r ≡ judgeOf sheet log number positions position-count) × ((table : List ℕ) → take position-count table ≡ take position-count positions → r ≡ judgeOf sheet log number table position-count)
+  answered = promised sheet log number position-count positions
+
+-- Nothing is refused
+module _ (c : tie.Else1) where
+  abbrev loading : tie.After-load-antiscenario
+  loading = c .before .before .before .before .before
+
+  both-there : Ready (sheet loading) (log loading) (number loading) (rows loading) (ticks loading) (events loading) (count loading) (lines loading)
+  both-there = loading .load-antiscenario .ensures .1 (c .if1 .left)
 
 returns : tie.Need-returns
 returns c =
-    let a = c .before .before .before .before .before .before .before .before .before .before .before .before .args in
-    let x = c .before .before .before .before .before .before .load-antiscenario in
-    promised (a .sheet .now) (a .log .now) (a .m) (a .t4 .count) (a .t4 .positions) _ (c .unjudged .ensures ∙ judge-refused (a .sheet .now) (a .log .now) (a .m) (a .t4 .positions) (a .t4 .count) (x .result .refusal) (x .ensures .0) (c .before .if1 .taken))
+    let x = c .before .before .before .before .before .before in
+    answered x _ (c .unjudged .ensures ∙ judge-refused (sheet x) (log x) (number x) (positions x) (position-count x) (refusal x) (x .load-antiscenario .ensures .0) (c .before .if1 .taken))
 
 gather-requires : tie.Need-gather-requires
-gather-requires c κs =
-    let x = c .before .before .before .before .before .before .before .load-antiscenario in
-    let R = x .ensures .1 (c .before .before .if1 .left) in
-    (omega (arith, R .few), omega (arith, R .pattern .few), R .pattern .few)
+gather-requires c κs = let A = both-there (c .before .before) .rows-held in (omega (arith, A .few), omega (arith, A .pattern .few), A .pattern .few)
 
 returns-2 : tie.Need-returns-2
 returns-2 c =
-    let a = c .before .before .before .before .before .before .before .before .before .before .before .before .before .before .before .before .before .args in
-    let x = c .before .before .before .before .before .before .before .before .before .before .before .load-antiscenario in
-    let g = c .before .before .before .gather in
-    promised (a .sheet .now) (a .log .now) (a .m) (a .t4 .count) (a .t4 .positions) _ (c .unjudged2 .ensures
-    ∙ wrong-number (a .sheet .now) (a .log .now) (a .m) (a .t4 .positions) (a .t4 .count) (x .result .refusal) (x .ensures .0) (c .before .before .before .before .before .before .if1 .left) (x .last .1 .1 .1 .0) (x .last .1 .1 .1 .1 .0) (x .last .1 .1 .1 .1 .1 .0)
-    (x .result .rows) (x .result .lines) (x .ensures .1 (c .before .before .before .before .before .before .if1 .left)) (g .result) (g .ensures .0) (c .before .if2 .taken))
+    let g = c .before .before .before in
+    let e = g .before .before .before in
+    let x = loading e in
+    answered x _ (c .unjudged2 .ensures
+    ∙ wrong-number (sheet x) (log x) (number x) (positions x) (position-count x) (refusal x) (x .load-antiscenario .ensures .0) (e .if1 .left) (rows x) (ticks x) (events x) (count x) (lines x) (both-there e)
+    (g .gather .result) (g .gather .ensures .0) (c .before .if2 .taken))
+
+-- and there are as many positions as points
+module _ (c : tie.Else2) where
+  abbrev gathering : tie.After-gather
+  gathering = c .before .before
+
+  abbrev read : tie.Else1
+  read = gathering .before .before .before
 
 is-matching-requires : tie.Need-is-matching-requires
 is-matching-requires c κs =
-    let x = c .before .before .before .before .before .before .before .before .before .before .before .before .before .before .before .before .before .load-antiscenario in
-    let g = c .before .before .before .before .before .before .before .before .before .gather in
-    let R = x .ensures .1 (c .before .before .before .before .before .before .before .before .before .before .before .before .if1 .left) in
-    (R .held, omega (arith, R .few), R .pattern, g .ensures .0, g .ensures .1, omega (arith, R .pattern .few, g .ensures .0))
+    let e = c .before .before .before .before .before .before .before in
+    let R = both-there (read e) in
+    let g = gathering e .gather in
+    (R .held, omega (arith, R .rows-held .few), R .rows-held .pattern, g .ensures .0, g .ensures .1, omega (arith, R .rows-held .pattern .few, g .ensures .0))
 
 returns-3 : tie.Need-returns-3
 returns-3 c =
-    let a = c .before .before .before .before .before .before .before .before .before .before .before .before .before .before .before .before .before .before .before .before .before .before .before .before .args in
-    let x = c .before .before .before .before .before .before .before .before .before .before .before .before .before .before .before .before .before .before .load-antiscenario in
-    let g = c .before .before .before .before .before .before .before .before .before .before .gather in
-    promised (a .sheet .now) (a .log .now) (a .m) (a .t4 .count) (a .t4 .positions) _ (judged (a .sheet .now) (a .log .now) (a .m) (a .t4 .positions) (a .t4 .count) (x .result .refusal) (x .ensures .0) (c .before .before .before .before .before .before .before .before .before .before .before .before .before .if1 .left) (x .last .1 .1 .1 .0) (x .last .1 .1 .1 .1 .0) (x .last .1 .1 .1 .1 .1 .0)
-    (x .result .rows) (x .result .lines) (x .ensures .1 (c .before .before .before .before .before .before .before .before .before .before .before .before .before .if1 .left)) (g .result) (g .ensures .0) (c .is-matching .result) (c .before .before .before .before .before .before .before .before .if2 .left) (c .is-matching .ensures))
+    let e = c .before .before .before .before .before .before .before .before in
+    let g = gathering e .gather in
+    let x = loading (read e) in
+    answered x _ (judged (sheet x) (log x) (number x) (positions x) (position-count x) (refusal x) (x .load-antiscenario .ensures .0) (read e .if1 .left) (rows x) (ticks x) (events x) (count x) (lines x) (both-there (read e))
+    (g .result) (g .ensures .0) (c .is-matching .result) (e .if2 .left) (c .is-matching .ensures))
 
 pub judge-spec : {M : Type 1} → statement M
 judge-spec =
@@ -55,7 +113,7 @@ judge-spec =
     (λ c. search needs)
     (λ c. search needs)
     (λ c. search needs)
-    load-antiscenario-requires
+    (λ c κs. (room-1200, search needs, search needs, all-zeros 4001))
     (λ c κs. search needs)
     returns
     (λ c. search needs)

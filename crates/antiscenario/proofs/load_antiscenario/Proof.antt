@@ -1,94 +1,90 @@
--- `load_antiscenario` meets its contract: each refusal is the definition's, and what is left in memory is antiscenario m and the log.
+-- `load_antiscenario` meets its contract: each refusal is the definition's, and what is left in memory is the antiscenario and the log.
 -- Assumes nothing.
-use Rattle.antiscenario.proofs.Judging.{sheet-refused, log-refused, number-low, number-high, not-refused, ready, few-lines, promised-nothing}
-use Rattle.antiscenario.proofs.InMemory.{rows-at-most}
-use Rattle.antiscenario.proofs.Writing.{rows-few, k-few, product-is, room-1056}
-use Rattle.antiscenario.proofs.Laws.{lay-length}
-use Rattle.sheet.specs.Reading.{taken}
-use lib.ListN.{length, replicate}
+use mathlib.Core.Path.{_∙_}
+use mathlib.Core.List.{List}
+use Prim.Native.Nat.{ℕ, _≤_}
 use native.Mathlib.Omega.{arith}
-use mathlib.Core.Path.{ap, _∙_}
+use lib.ListN.{replicate}
+use Rattle.sheet.specs.declared.Answer.{Answer as SheetAnswer}
+use Rattle.runlog.specs.Held.{Loaded}
+use Rattle.sheet.specs.Held.{SheetLoaded}
+use Rattle.sheet.proofs.Held.{sheet-loaded, room-1056}
+use Rattle.antiscenario.proofs.InMemory.{held-of-text}
+use Rattle.antiscenario.proofs.Judging.{sheet-refused, log-refused, number-answered, few-lines, ready, promised-nothing}
 use borrow.Author.Needs.{needs}
 use Rattle.antiscenario.proofs.load_antiscenario.Statement.{statement}
 use Rattle.antiscenario.proofs.load_antiscenario.Tie as tie
 
+-- The texts, the number, and what reading the sheet gave
+module _ (c : tie.After-load-sheet) where
+  abbrev start : tie.Start
+  start = c .before .before .before .before .before .before .before
+
+  abbrev sheet : List ℕ
+  sheet = start .args .sheet .now
+
+  abbrev log : List ℕ
+  log = start .args .log .now
+
+  abbrev number : ℕ
+  number = start .args .number
+
+  abbrev read : SheetAnswer
+  read = c .load-sheet .result
+
+-- The sheet is accepted
+module _ (c : tie.Else1) where
+  abbrev reading : tie.After-load-sheet
+  reading = c .before .before .before
+
+  sheet-there : SheetLoaded (reading .load-sheet .last .1 .0) (read reading)
+  sheet-there =
+      sheet-loaded (sheet reading) (read reading) (reading .load-sheet .ensures .0) (c .if1 .left) (reading .load-sheet .last .1 .0) (replicate 1056 0) room-1056 (reading .load-sheet .ensures .1)
+
+-- and so is the log
+module _ (c : tie.Else2) where
+  abbrev logging : tie.After-load-log
+  logging = c .before .before .before .before .before .before
+
+  abbrev accepted : tie.Else1
+  accepted = logging .before .before .before
+
+  log-there : Loaded (log (reading accepted)) (logging .load-log .last .1 .0) (logging .load-log .last .1 .1 .0)
+  log-there = logging .load-log .ensures .1 (c .if2 .left)
+
 returns : tie.Need-returns
 returns c =
-    let a = c .before .before .before .before .before .before .before .before .before .before .before .args in
-    let x = c .before .before .before .before .load-sheet in (
-      c .not-loaded .ensures ∙ sheet-refused (a .sheet .now) (a .log .now) (a .m) (x .result) (x .ensures .0) (c .before .if1 .taken),
-      promised-nothing _ (x .result .refusal) (c .not-loaded .ensures) (c .before .if1 .taken),
+    let x = c .before .before .before .before in (
+      c .not-ready .ensures ∙ sheet-refused (sheet x) (log x) (number x) (read x) (x .load-sheet .ensures .0) (c .before .if1 .taken),
+      promised-nothing _ (read x .refusal) (c .not-ready .ensures) (c .before .if1 .taken),
     )
-
-load-log-requires : tie.Need-load-log-requires
-load-log-requires c κs = let s = c .before .before .before .before .before .before .before .before .before .before .before .before in (s .pre .1, s .pre .2, s .pre .3)
 
 returns-2 : tie.Need-returns-2
 returns-2 c =
-    let a = c .before .before .before .before .before .before .before .before .before .before .before .before .before .before .before .before .before .before .before .before .args in
-    let x = c .before .before .before .before .before .before .before .before .before .before .before .before .before .load-sheet in
-    let y = c .before .before .before .before .before .before .before .load-log in (
-      c .not-loaded2 .ensures ∙ log-refused (a .sheet .now) (a .log .now) (a .m) (x .result) (x .ensures .0) (c .before .before .before .before .before .before .before .before .before .before .if1 .left) (y .result) (y .ensures .0) (c .before .if2 .taken),
-      promised-nothing _ (y .result .refusal) (c .not-loaded2 .ensures) (c .before .if2 .taken),
+    let l = c .before .before .before .before .before .before .before in
+    let a = l .before .before .before in
+    let x = reading a in (
+      c .not-ready2 .ensures ∙ log-refused (sheet x) (log x) (number x) (read x) (x .load-sheet .ensures .0) (a .if1 .left) (l .load-log .result) (l .load-log .ensures .0) (c .before .if2 .taken),
+      promised-nothing _ (l .load-log .result .refusal) (c .not-ready2 .ensures) (c .before .if2 .taken),
     )
+
+load-requires : tie.Need-load-requires
+load-requires c κs = let a = accepted (c .before .before) in (sheet-there a, start (reading a) .pre .0)
+
+few : (c : tie.Else2) → logging c .load-log .result .n ≤ 4000
+few c = few-lines (log (reading (accepted c))) (logging c .load-log .result) (logging c .load-log .ensures .0) _ _ (log-there c)
 
 returns-3 : tie.Need-returns-3
 returns-3 c =
-    let a = c .before .before .before .before .before .before .before .before .before .before .before .before .before .before .before .before .before .before .before .before .before .args in
-    let x = c .before .before .before .before .before .before .before .before .before .before .before .before .before .before .load-sheet in
-    let y = c .before .before .before .before .before .before .before .before .load-log in (
-      c .not-loaded3 .ensures
-          ∙ number-low (a .sheet .now) (a .log .now) (a .m) (x .result) (x .ensures .0) (c .before .before .before .before .before .before .before .before .before .before .before .if1 .left) (y .result) (y .ensures .0) (c .before .before .if2 .left) (c .before .if3 .taken),
-      promised-nothing _ 31 (c .not-loaded3 .ensures) (λ e. omega arith),
-    )
-
-returns-4 : tie.Need-returns-4
-returns-4 c =
-    let a = c .before .before .before .before .before .before .before .before .before .before .before .before .before .before .before .before .before .before .before .before .before .before .before .args in
-    let x = c .before .before .before .before .before .before .before .before .before .before .before .before .before .before .before .before .load-sheet in
-    let y = c .before .before .before .before .before .before .before .before .before .before .load-log in (
-      c .not-loaded4 .ensures
-          ∙ number-high (a .sheet .now) (a .log .now) (a .m) (x .result) (x .ensures .0) (c .before .before .before .before .before .before .before .before .before .before .before .before .before .if1 .left) (y .result) (y .ensures .0) (c .before .before .before .before .if2 .left) (c .before .before .before .if3 .left) (c .before .if4 .taken),
-      promised-nothing _ 31 (c .not-loaded4 .ensures) (λ e. omega arith),
-    )
-
-build-requires : tie.Need-build-requires
-build-requires c κs =
-    let a = c .before .before .before .before .before .before .before .before .before .before .before .before .before .before .before .before .before .before .before .before .before .before .before .before .args in
-    let x = c .before .before .before .before .before .before .before .before .before .before .before .before .before .before .before .before .before .load-sheet in
-    let z = c .before .before .before .before .before .before .before .before .before .before .before .before .before .before .if1 .left in (
-      omega (arith, room-1056, ap length (x .ensures .1), lay-length (taken (a .sheet .now) .lines) 0 (replicate 1056 0)),
-      rows-few (a .sheet .now) (a .m) (x .result) (x .ensures .0) z,
-      k-few (a .sheet .now) (a .m) (x .result) (x .ensures .0) z,
-      omega (arith, c .before .before .before .before .if3 .left, c .before .before .if4 .left),
-      product-is (a .sheet .now) (a .m) (x .result) (x .ensures .0) z (x .last .1 .0) (replicate 1056 0) room-1056 (x .ensures .1),
-    )
-
-cast-t23 : tie.Need-cast-t23
-cast-t23 c =
-    let s = c .before .before .before .before .before .before .before .before .before .before .before .before .before .before .before .before .before .before .before .before .before .before .before .before .before .before .before in
-    let a = s .args in
-    let x = c .before .before .before .before .before .before .before .before .before .before .before .before .before .before .before .before .before .before .before .before .load-sheet in
-    let b = c .before .before .build in
-    record { fits = omega (arith, rows-at-most (a .sheet .now) (a .m) (x .result) (x .ensures .0) (c .before .before .before .before .before .before .before .before .before .before .before .before .before .before .before .before .before .if1 .left) (x .last .1 .0) (replicate 1056 0) room-1056 (x .ensures .1) (b .last .1 .1 .1 .1 .1 .0) (a .out .now) (b .result) (s .pre .0) (b .ensures .0) (b .ensures .1)) }
-
-cast-t24 : tie.Need-cast-t24
-cast-t24 c =
-    let a = c .before .before .before .before .before .before .before .before .before .before .before .before .before .before .before .before .before .before .before .before .before .before .before .before .before .before .before .before .args in
-    let y = c .before .before .before .before .before .before .before .before .before .before .before .before .before .before .before .load-log in
-    record { fits = omega (arith, few-lines (a .log .now) (y .result) (y .ensures .0) (y .last .1 .0) (y .last .1 .1 .0) (y .ensures .1 (c .before .before .before .before .before .before .before .before .before .if2 .left))) }
-
-returns-5 : tie.Need-returns-5
-returns-5 c =
-    let s = c .before .before .before .before .before .before .before .before .before .before .before .before .before .before .before .before .before .before .before .before .before .before .before .before .before .before .before .before in
-    let a = s .args in
-    let x = c .before .before .before .before .before .before .before .before .before .before .before .before .before .before .before .before .before .before .before .before .before .load-sheet in
-    let y = c .before .before .before .before .before .before .before .before .before .before .before .before .before .before .before .load-log in
-    let b = c .before .before .before .build in (
-      not-refused (a .sheet .now) (a .log .now) (a .m) (x .result) (x .ensures .0) (c .before .before .before .before .before .before .before .before .before .before .before .before .before .before .before .before .before .before .if1 .left) (y .result) (y .ensures .0) (c .before .before .before .before .before .before .before .before .before .if2 .left) (c .before .before .before .before .before .before .before .before .if3 .left) (c .before .before .before .before .before .before .if4 .left),
-      λ e. ready (a .sheet .now) (a .log .now) (a .m) (x .result) (x .ensures .0) (c .before .before .before .before .before .before .before .before .before .before .before .before .before .before .before .before .before .before .if1 .left) (y .result) (y .ensures .0) (c .before .before .before .before .before .before .before .before .before .if2 .left) (c .before .before .before .before .before .before .before .before .if3 .left) (c .before .before .before .before .before .before .if4 .left)
-          (x .last .1 .0) (replicate 1056 0) room-1056 (x .ensures .1) (b .last .1 .1 .1 .1 .1 .0) (a .out .now) (b .result) (s .pre .0) (b .ensures .0) (b .ensures .1)
-          (y .last .1 .0) (y .last .1 .1 .0) (y .ensures .1 (c .before .before .before .before .before .before .before .before .before .if2 .left)),
+    let d = c .before .before .before .load in
+    let e = c .before .before .before .before .before .before in
+    let a = accepted e in
+    let x = reading a in
+    let l = logging e .load-log in (
+      number-answered (sheet x) (log x) (number x) (read x) (x .load-sheet .ensures .0) (a .if1 .left) (l .result) (l .ensures .0) (e .if2 .left) (d .result .refusal) (d .ensures .0),
+      λ z. ready (log x) (l .result) (l .ensures .0) _ _ (log-there e) (sheet x) (number x) _ (d .result .rows)
+          (held-of-text (sheet x) (read x) (x .load-sheet .ensures .0) (a .if1 .left) (x .load-sheet .last .1 .0) (replicate 1056 0) room-1056 (x .load-sheet .ensures .1)
+          (number x) _ (d .result .rows) (d .ensures .1 z)),
     )
 
 pub load-antiscenario-spec : {M : Type 1} → statement M
@@ -99,24 +95,15 @@ load-antiscenario-spec =
     (λ c κs. search needs)
     (λ c κs. search needs)
     returns
-    load-log-requires
+    (λ c κs. search needs)
     (λ c κs. search needs)
     (λ c. search needs)
     (λ c. search needs)
     returns-2
-    (λ c κs. search needs)
     (λ c. search needs)
-    (λ c. search needs)
-    returns-3
-    (λ c κs. search needs)
-    (λ c. search needs)
-    (λ c. search needs)
-    returns-4
-    (λ c. search needs)
-    build-requires
-    cast-t23
-    cast-t24
+    load-requires
+    (λ c. record { fits = omega (arith, few (c .before .before .before .before .before .before)) })
     (λ c. search needs)
     (λ c. search needs)
     (λ c. search needs)
-    returns-5)
+    returns-3)

@@ -7,8 +7,10 @@ use Rattle.antiscenario.proofs.write_text.Tie as tie
 
 returns : tie.Need-returns
 returns c =
-    let a = c .before .before .before .before .before .before .before .before .before .before .args in
-    text-inked (a .k) (a .rows .now) (a .n) (a .buf .now) (c .before .before .before .before .before .before .write-head .last .0) _ (c .before .before .before .before .before .before .write-head .ensures) (c .before .before .write-rows .ensures)
+    let rows = c .before .before in
+    let head = rows .before .before .before .before in
+    let a = head .before .before .before .before .args in
+    text-inked (a .k) (a .rows .now) (a .n) (a .buf .now) (head .write-head .last .0) _ (head .write-head .ensures) (rows .write-rows .ensures)
 
 pub write-text-spec : {M : Type 1} → statement M
 write-text-spec =

@@ -6,7 +6,7 @@ use mathlib.Core.Path.{_≡_, sym, ap, _∙_}
 use native.Mathlib.Omega.{arith}
 use lib.ListN.{length}
 use Rattle.verdict.specs.declared.Checked.{Checked}
-use Rattle.verdict.proofs.Printing.{few}
+use Rattle.verdict.proofs.Few.{few}
 use Rattle.bench.specs.Host.{hostNumber, fronted}
 use Rattle.bench.proofs.Numbers.{number-refused, number-violated, number-holds, refused-unviolated, unviolated-keeps, violated-writes}
 use Rattle.bench.proofs.satskhubo_check.Statement.{statement}

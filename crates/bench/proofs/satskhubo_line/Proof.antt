@@ -1,13 +1,13 @@
 -- `satskhubo_line` meets its contract: the line is the one that the check's refusal is about, and has at most 35 bytes.
 -- Assumes nothing.
 use borrow.Author.Needs.{needs}
-use mathlib.Core.Path.{_≡_, ap, _∙_}
+use mathlib.Core.Path.{ap, _∙_}
 use native.Mathlib.Omega.{arith}
 use mathlib.Core.List.{List}
 use Prim.Native.Nat.{ℕ}
 use lib.ListN.{length}
-use Rattle.verdict.specs.declared.Part.{Part}
-use Rattle.verdict.proofs.Showing.{shown-few}
+use Rattle.line.specs.declared.Part.{Part}
+use Rattle.line.proofs.Showing.{shown-few}
 use Rattle.bench.specs.Host.{fronted}
 use Rattle.bench.proofs.satskhubo_line.Statement.{statement}
 use Rattle.bench.proofs.satskhubo_line.Tie as tie

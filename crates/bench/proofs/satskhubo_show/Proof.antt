@@ -3,7 +3,7 @@
 use borrow.Author.Needs.{needs}
 use mathlib.Core.Path.{ap}
 use Prim.Native.Nat.{_-_}
-use Rattle.verdict.specs.declared.Part.{Part}
+use Rattle.line.specs.declared.Part.{Part}
 use Rattle.bench.proofs.satskhubo_show.Statement.{statement}
 use Rattle.bench.proofs.satskhubo_show.Tie as tie
 

@@ -1,7 +1,7 @@
 -- `all_met` meets its contract: the rows from number j on are all met exactly when all are.
 -- Assumes nothing.
 use Rattle.pattern.proofs.Matching.{met-on, met-not, met-end}
-use Rattle.sheet.specs.Memory.{rowAt, listed, rowsOf}
+use Rattle.row.specs.Memory.{rowAt, listed, rowsOf}
 use Rattle.pattern.specs.Placing.{by}
 use Rattle.runlog.specs.Held.{runAt}
 use Rattle.scenario.specs.Sheet.{all}
@@ -15,10 +15,10 @@ use Rattle.pattern.proofs.all_met.Statement.{statement}
 use Rattle.pattern.proofs.all_met.Tie as tie
 
 abbrev Inv-loop : tie.InvT-loop
-Inv-loop ticks events n env rows count j₀ j = (j ≤ count) × (all (meets (runAt ticks events n) (by env)) (listed (rowAt rows) j (count - j)) ≡ all (meets (runAt ticks events n) (by env)) (rowsOf rows count))
+Inv-loop ticks events n positions rows count j₀ j = (j ≤ count) × (all (meets (runAt ticks events n) (by positions)) (listed (rowAt rows) j (count - j)) ≡ all (meets (runAt ticks events n) (by positions)) (rowsOf rows count))
 
 abbrev μ-loop : tie.MeasureT-loop
-μ-loop ticks events n env rows count j₀ j = count - j
+μ-loop ticks events n positions rows count j₀ j = count - j
 
 loop-holds : tie.Need-loop-holds Inv-loop μ-loop
 unfolding rowsOf
@@ -31,7 +31,7 @@ returns : tie.Need-returns Inv-loop μ-loop
 returns c =
     let a = c .before .before .before .before .before .before .before .before .args in
     let l = c .before .before .before .before .loop in
-    met-not (runAt (a .ticks .now) (a .events .now) (a .n)) (by (a .env .now)) (a .rows .now) (a .count) (l .j) _ (c .before .before .row-at .ensures) (c .before .before .before .loop-test .taken)
+    met-not (runAt (a .ticks .now) (a .events .now) (a .n)) (by (a .positions .now)) (a .rows .now) (a .count) (l .j) _ (c .before .before .row-at .ensures) (c .before .before .before .loop-test .taken)
     (sym (c .before .meets .ensures) ∙ not-true _ (c .if1 .taken)) ∙ l .inv .1
 
 loop-again : tie.Need-loop-again Inv-loop μ-loop
@@ -39,7 +39,7 @@ loop-again c =
     let a = c .before .before .before .before .before .before .before .before .args in
     let l = c .before .before .before .before .loop in (
       search needs,
-      met-on (runAt (a .ticks .now) (a .events .now) (a .n)) (by (a .env .now)) (a .rows .now) (a .count) (l .j) _ (c .before .before .row-at .ensures) (c .before .before .before .loop-test .taken)
+      met-on (runAt (a .ticks .now) (a .events .now) (a .n)) (by (a .positions .now)) (a .rows .now) (a .count) (l .j) _ (c .before .before .row-at .ensures) (c .before .before .before .loop-test .taken)
           (sym (c .before .meets .ensures) ∙ not-false _ (c .if1 .left)) ∙ l .inv .1,
     )
 
@@ -47,7 +47,7 @@ returns-2 : tie.Need-returns-2 Inv-loop μ-loop
 returns-2 c =
     let a = c .before .before .before .before .before .args in
     let l = c .before .loop in
-    met-end (runAt (a .ticks .now) (a .events .now) (a .n)) (by (a .env .now)) (a .rows .now) (a .count) (l .j) (c .loop-test .left) ∙ l .inv .1
+    met-end (runAt (a .ticks .now) (a .events .now) (a .n)) (by (a .positions .now)) (a .rows .now) (a .count) (l .j) (c .loop-test .left) ∙ l .inv .1
 
 pub all-met-spec : {M : Type 1} → statement M
 all-met-spec =

@@ -1,7 +1,7 @@
 -- `is_matching` meets its contract: positions off the lines match nothing, and the others do exactly when the array that they are put into meets all rows.
 -- Assumes nothing.
 use Rattle.pattern.proofs.Matching.{points-room, placement-off, placement-met}
-use Rattle.sheet.specs.Memory.{rowsOf}
+use Rattle.row.specs.Memory.{rowsOf}
 use borrow.Author.Tests.{not-true, not-false}
 use borrow.Author.Needs.{needs}
 use Rattle.pattern.proofs.is_matching.Statement.{statement}
@@ -11,20 +11,20 @@ returns : tie.Need-returns
 returns c =
     let s = c .before .before .before .before .before .before in
     let a = s .args in
-    placement-off (a .ticks .now) (a .events .now) (a .n) (s .pre .0) (rowsOf (a .rows .now) (a .count)) (a .pts .now) (a .positions .now) (a .np) (s .pre .3) (s .pre .4) (s .pre .5)
+    placement-off (a .ticks .now) (a .events .now) (a .n) (s .pre .0) (rowsOf (a .rows .now) (a .count)) (a .points .now) (a .positions .now) (a .point-count) (s .pre .3) (s .pre .4) (s .pre .5)
     (c .before .all-lines .result) (c .before .all-lines .ensures) (not-true _ (c .if1 .taken))
 
 put-points-requires : tie.Need-put-points-requires
 put-points-requires c κs =
     let s = c .before .before .before .before .before .before .before in
     let a = s .args in
-    (points-room (a .ticks .now) (a .events .now) (a .n) (s .pre .0) (rowsOf (a .rows .now) (a .count)) (a .pts .now) (a .positions .now) (a .np) (s .pre .3) (s .pre .4) (s .pre .5), s .pre .5)
+    (points-room (a .ticks .now) (a .events .now) (a .n) (s .pre .0) (rowsOf (a .rows .now) (a .count)) (a .points .now) (a .positions .now) (a .point-count) (s .pre .3) (s .pre .4) (s .pre .5), s .pre .5)
 
 returns-2 : tie.Need-returns-2
 returns-2 c =
     let s = c .before .before .before .before .before .before .before .before .before .before .before in
     let a = s .args in
-    placement-met (a .ticks .now) (a .events .now) (a .n) (s .pre .0) (rowsOf (a .rows .now) (a .count)) (a .pts .now) (a .positions .now) (a .np) (s .pre .3) (s .pre .4) (s .pre .5) (s .pre .2)
+    placement-met (a .ticks .now) (a .events .now) (a .n) (s .pre .0) (rowsOf (a .rows .now) (a .count)) (a .points .now) (a .positions .now) (a .point-count) (s .pre .3) (s .pre .4) (s .pre .5) (s .pre .2)
     (c .before .before .before .before .before .before .all-lines .result) (c .before .before .before .before .before .before .all-lines .ensures) (not-false _ (c .before .before .before .before .before .if1 .left))
     (c .before .before .before .put-points .last .1 .1 .1 .0) (c .before .before .before .put-points .ensures) (c .all-met .result) (c .all-met .ensures)
 

@@ -10,10 +10,10 @@ use Rattle.pattern.proofs.put_points.Statement.{statement}
 use Rattle.pattern.proofs.put_points.Tie as tie
 
 abbrev Inv-loop : tie.InvT-loop
-Inv-loop pts positions np env₀ j₀ env j = (j ≤ np) × (length env ≡ length env₀) × (puts env (drop j (take np pts)) (drop j (take np positions)) ≡ puts env₀ (take np pts) (take np positions))
+Inv-loop points positions point-count standing₀ j₀ standing j = (j ≤ point-count) × (length standing ≡ length standing₀) × (puts standing (drop j (take point-count points)) (drop j (take point-count positions)) ≡ puts standing₀ (take point-count points) (take point-count positions))
 
 abbrev μ-loop : tie.MeasureT-loop
-μ-loop pts positions np env₀ j₀ env j = np - j
+μ-loop points positions point-count standing₀ j₀ standing j = point-count - j
 
 loop-holds : tie.Need-loop-holds Inv-loop μ-loop
 loop-holds c = (search needs, refl, refl)
@@ -24,7 +24,7 @@ loop-again c =
     let l = c .before .before .before .before .before .before .before .loop in (
       search needs,
       search needs,
-      puts-on (l .env) (a .pts .now) (a .positions .now) (a .np) (l .j) (c .before .before .before .before .before .before .before .before .before .before .before .pre .0) (c .before .before .before .before .before .before .before .before .before .before .before .pre .1) (c .before .before .store .last .0) (c .before .before .before .before .at .result) (c .before .before .before .at2 .result) (c .before .before .before .before .before .before .loop-test .taken)
+      puts-on (l .standing) (a .points .now) (a .positions .now) (a .point-count) (l .j) (c .before .before .before .before .before .before .before .before .before .before .before .pre .0) (c .before .before .before .before .before .before .before .before .before .before .before .pre .1) (c .before .before .store .last .0) (c .before .before .before .before .at .result) (c .before .before .before .at2 .result) (c .before .before .before .before .before .before .loop-test .taken)
           (c .before .before .store .ensures) (c .before .before .before .before .at .ensures) (c .before .before .before .at2 .ensures) ∙ l .inv .2,
     )
 
@@ -32,7 +32,7 @@ returns : tie.Need-returns Inv-loop μ-loop
 returns c =
     let a = c .before .before .before .before .before .args in
     let l = c .before .loop in
-    sym (puts-end (l .env) (a .pts .now) (a .positions .now) (a .np) (l .j) (c .before .before .before .before .before .pre .0) (c .before .before .before .before .before .pre .1) (c .loop-test .left)) ∙ l .inv .2
+    sym (puts-end (l .standing) (a .points .now) (a .positions .now) (a .point-count) (l .j) (c .before .before .before .before .before .pre .0) (c .before .before .before .before .before .pre .1) (c .loop-test .left)) ∙ l .inv .2
 
 pub put-points-spec : {M : Type 1} → statement M
 put-points-spec =

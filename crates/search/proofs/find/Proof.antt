@@ -1,73 +1,85 @@
--- What `prepare` ensures is a plan (Finding.planned); the search of that plan is the smallest matching, and it is read off where it was put.
-use mathlib.Core.Path.{refl, sym, ap, _∙_}
-use native.Mathlib.Omega.{arith}
+-- The next matching from the first placement on is the smallest (Starting.smallest-next), and it is read off where it was put (Finding.read-off).
+use mathlib.Core.Path.{_≡_, refl, sym, ap, _∙_}
+use mathlib.Core.Bool.{false}
 use mathlib.Core.List.{List, map, _++_}
 use Prim.Native.Nat.{ℕ, _+_}
+use native.Mathlib.Omega.{arith}
 use lib.ListN.{take, drop}
 use borrow.Author.Tests.{not-true, not-false}
+use Rattle.scenario.specs.Rows.{points}
+use Rattle.scenario.specs.Sheet.{Answer}
 use Rattle.scenario.specs.Search.{smallest-matching}
 use Rattle.runlog.specs.Held.{runAt}
-use Rattle.sheet.specs.Memory.{rowsOf}
+use Rattle.row.specs.Memory.{rowsOf}
 use Rattle.pattern.specs.Placing.{by}
-use Rattle.search.specs.Matching.{isFound, after}
-use Rattle.search.proofs.Finding.{blank, find-none, find-is, roomy, read-off, filled-none}
+use Rattle.plan.specs.Tables.{point-count, row-count, pointsIn}
+use Rattle.plan.proofs.Due.{never}
+use Rattle.placement.specs.Matching.{isFound, after, next-matching}
+use Rattle.placement.proofs.Starting.{blank, fixture, roomy, prepared, unmatched, smallest-next}
+use Rattle.search.specs.Searching.{filled}
+use Rattle.search.proofs.Finding.{read-off, filled-none}
 use borrow.Author.Needs.{needs}
 use Rattle.search.proofs.find.Statement.{statement}
 use Rattle.search.proofs.find.Tie as tie
 
+module _ (s : tie.Start) where
+  abbrev answer : Answer
+  answer = smallest-matching (runAt (s .args .ticks .now) (s .args .events .now) (s .args .n)) (rowsOf (s .args .rows .now) (row-count (s .args .plan .now)))
+
+  abbrev ps : List ℕ
+  ps = points (rowsOf (s .args .rows .now) (row-count (s .args .plan .now)))
+
+  -- the next matching from here on
+  next-is : next-matching (runAt (s .args .ticks .now) (s .args .events .now) (s .args .n)) (rowsOf (s .args .rows .now) (row-count (s .args .plan .now))) (map (by (blank (s .args .n + 1))) ps) ≡ answer
+  next-is = smallest-next (s .args .ticks .now) (s .args .events .now) (s .args .n) (s .pre .0) (s .args .rows .now) (s .args .plan .now) (s .pre .1) (s .pre .3)
+
+  -- none: the places stay
+  none : isFound answer ≡ false → (false ≡ isFound answer) × (s .args .places .now ≡ filled (s .args .places .now) answer)
+  none e = (sym e, sym (filled-none (s .args .places .now) answer e))
+
 returns : tie.Need-returns
 returns c =
     let r = c .before in
-    let s = r .before .before .before .before .before .before .before .before .before .before .before .before .before .before .before in
-    let a = s .args in
-    let p = r .before .before .before .before .before .before .before .before .before .prepare in
-    let e = find-none (a .ticks .now) (a .events .now) (a .n) (s .pre .0) (a .rows .now) (a .count) (s .pre .2) (p .last .1 .1 .0) (p .last .1 .1 .1 .0) (p .result) (p .ensures .0) (p .ensures .1 .0) (p .ensures .1 .1 .0) (sym (r .grounded .ensures) ∙ not-true _ (c .if1 .taken)) in
-    (sym (ap isFound e), sym (filled-none (a .places .now) (smallest-matching (runAt (a .ticks .now) (a .events .now) (a .n)) (rowsOf (a .rows .now) (a .count))) (ap isFound e)))
+    let s = r .before .before .before in
+    none s (ap isFound (unmatched (s .args .ticks .now) (s .args .events .now) (s .args .n) (s .pre .0) (s .args .rows .now) (s .args .plan .now) (s .pre .1) (s .pre .3) (sym (r .grounded .ensures) ∙ not-true _ (c .if1 .taken))))
 
-place-requires : tie.Need-place-requires
-place-requires c κs =
-    let r = c .before .before .before .before .before .before in
-    let s = r .before .before .before .before .before .before .before .before .before .before .before .before .before .before .before in
-    let a = s .args in
-    let p = r .before .before .before .before .before .before .before .before .before .prepare in
-    (s .pre .0, p .ensures .1 .1 .1, roomy (a .ticks .now) (a .events .now) (a .n) (s .pre .0) (a .rows .now) (a .count) (s .pre .2) (p .last .1 .1 .0) (p .last .1 .1 .1 .0) (p .result) (p .ensures .0) (p .ensures .1 .0) (p .ensures .1 .1 .0) (p .kept .1 .1 .0) (s .pre .1))
+next-requires : tie.Need-next-requires
+next-requires c κs =
+    let r = c .before .before in
+    let s = r .before .before .before in
+    let a = s .args in (
+      s .pre .0,
+      s .pre .1 .linked,
+      (blank (a .n + 1), prepared (a .ticks .now) (a .events .now) (a .n) (s .pre .0) (a .rows .now) (a .plan .now) (s .pre .1) (s .pre .3) (s .pre .2) (sym (r .grounded .ensures) ∙ not-false _ (c .before .if1 .left))),
+      fixture (a .ticks .now) (a .events .now) (a .n) (s .pre .0) (a .rows .now) (a .plan .now) (s .pre .1) (s .pre .3),
+      λ q. never q,
+    )
 
 returns-2 : tie.Need-returns-2
 returns-2 c =
-    let r = c .before .before .before .before .before .before .before .before in
-    let s = r .before .before .before .before .before .before .before .before .before .before .before .before .before .before .before in
-    let a = s .args in
-    let p = r .before .before .before .before .before .before .before .before .before .prepare in
-    let h = find-is (a .ticks .now) (a .events .now) (a .n) (s .pre .0) (a .rows .now) (a .count) (s .pre .2) (p .last .1 .1 .0) (p .last .1 .1 .1 .0) (p .result) (p .ensures .0) (p .ensures .1 .0) (p .ensures .1 .1 .0) (sym (r .grounded .ensures) ∙ not-false _ (c .before .before .before .before .before .before .before .if1 .left)) in
-    let e = sym (ap isFound h) ∙ sym (c .before .place .ensures .0) ∙ not-true _ (c .if2 .taken) in
-    (sym e, sym (filled-none (a .places .now) (smallest-matching (runAt (a .ticks .now) (a .events .now) (a .n)) (rowsOf (a .rows .now) (a .count))) e))
+    let x = c .before in
+    let s = x .before .before .before .before .before .before in
+    none s (sym (ap isFound (next-is s)) ∙ sym (x .next .ensures .0) ∙ not-true _ (c .if2 .taken))
 
 copy-out-requires : tie.Need-copy-out-requires
 copy-out-requires c κs =
-    let r = c .before .before .before .before .before .before .before .before .before .before .before in
-    let s = r .before .before .before .before .before .before .before .before .before .before .before .before .before .before .before in
+    let s = c .before .before .before .before .before .before .before .before .before in
     let a = s .args in
-    let p = r .before .before .before .before .before .before .before .before .before .prepare in
-    (omega (arith, p .ensures .0, s .pre .2 .few), omega (arith, p .ensures .0, s .pre .2 .few, p .kept .1 .1 .0), omega (arith, p .ensures .0, s .pre .3))
+    (omega (arith, s .pre .1 .number, s .pre .3 .few), roomy (a .ticks .now) (a .events .now) (a .n) (s .pre .0) (a .rows .now) (a .plan .now) (s .pre .1) (s .pre .3), s .pre .4)
 
 returns-3 : tie.Need-returns-3
 returns-3 c =
-    let r = c .before .before .before .before .before .before .before .before .before .before .before .before .before .before in
-    let s = r .before .before .before .before .before .before .before .before .before .before .before .before .before .before .before in
+    let o = c .before .before in
+    let e = o .before .before .before in
+    let x = e .before in
+    let s = x .before .before .before .before .before .before in
     let a = s .args in
-    let p = r .before .before .before .before .before .before .before .before .before .prepare in
-    let h = find-is (a .ticks .now) (a .events .now) (a .n) (s .pre .0) (a .rows .now) (a .count) (s .pre .2) (p .last .1 .1 .0) (p .last .1 .1 .1 .0) (p .result) (p .ensures .0) (p .ensures .1 .0) (p .ensures .1 .1 .0) (sym (r .grounded .ensures) ∙ not-false _ (c .before .before .before .before .before .before .before .before .before .before .before .before .before .if1 .left)) in
-    let e = sym (ap isFound h) ∙ sym (c .before .before .before .before .before .before .before .place .ensures .0) ∙ not-false _ (c .before .before .before .before .before .before .if2 .left) in (
-      sym e,
-      c .before .before .copy-out .ensures
-          ∙ ap (λ (z : List ℕ). map (by z) (take (p .result) (p .last .1 .1 .0)) ++ drop (p .result) (a .places .now)) (c .before .before .before .before .before .before .before .place .ensures .1 ∙ ap (after (blank (a .n + 1)) (drop 0 (p .last .1 .1 .0))) h)
-          ∙ read-off (a .ticks .now) (a .events .now) (a .n) (s .pre .0) (a .rows .now) (a .count) (s .pre .2) (p .last .1 .1 .0) (p .last .1 .1 .1 .0) (p .result) (p .ensures .0) (p .ensures .1 .0) (p .ensures .1 .1 .0) (a .places .now) (smallest-matching (runAt (a .ticks .now) (a .events .now) (a .n)) (rowsOf (a .rows .now) (a .count))) refl e,
+    let hit = sym (ap isFound (next-is s)) ∙ sym (x .next .ensures .0) ∙ not-false _ (e .if2 .left) in (
+      sym hit,
+      o .copy-out .ensures
+          ∙ ap (λ (z : List ℕ). map (by z) (take (point-count (a .plan .now)) (pointsIn (a .plan .now))) ++ drop (point-count (a .plan .now)) (a .places .now)) (x .next .ensures .1 ∙ ap (after (blank (a .n + 1)) (ps s)) (next-is s))
+          ∙ read-off (a .ticks .now) (a .events .now) (a .n) (a .rows .now) (a .plan .now) (s .pre .1) (s .pre .3) (a .places .now) (answer s) refl hit,
     )
-
-grounded-requires : tie.Need-grounded-requires
-grounded-requires c κs =
-    let s = c .before .before .before .before .before .before .before .before .before .before .before .before .before .before in
-    (s .pre .0, s .pre .1, c .before .before .before .before .before .before .before .before .prepare .ensures .1 .1 .1)
 
 pub find-spec : {M : Type 1} → statement M
 find-spec =
@@ -75,14 +87,9 @@ find-spec =
     (tie.spec
     (λ c. search needs)
     (λ c. search needs)
-    (λ c. search needs)
-    (λ c. search needs)
-    (λ c κs. search needs)
-    (λ c. search needs)
-    (λ c. search needs)
-    grounded-requires
+    (λ c κs. let s = c .before .before in (s .pre .0, s .pre .2, s .pre .1 .linked))
     returns
-    place-requires
+    next-requires
     returns-2
     copy-out-requires
     (λ c. search needs)

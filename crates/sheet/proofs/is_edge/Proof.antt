@@ -1,7 +1,7 @@
 -- `is_edge` meets its contract: the definition's tests one after another.
 -- Assumes nothing.
 use borrow.Author.Tests.{eq-eqb, ne-eqb}
-use Rattle.sheet.specs.Memory.{edge}
+use Rattle.sheet.specs.Count.{edge}
 use Rattle.sheet.proofs.is_edge.Statement.{statement}
 use Rattle.sheet.proofs.is_edge.Tie as tie
 

@@ -7,10 +7,11 @@ use Prim.Native.Nat.{ℕ}
 use native.Mathlib.Omega.{arith}
 use lib.ListN.{length}
 use Rattle.scenario.specs.Sheet.{count}
-use Rattle.sheet.specs.Row.{start}
+use Rattle.rules.specs.Rules.{start}
 use Rattle.sheet.specs.Reading.{rowsFrom, sheetOf}
-use Rattle.sheet.specs.Memory.{product, linesIn}
-use Rattle.sheet.proofs.Memory.{lay-length}
+use Rattle.sheet.specs.Count.{product}
+use Rattle.row.specs.Memory.{linesIn}
+use Rattle.row.proofs.Memory.{lay-length}
 use Rattle.sheet.proofs.Whole.{head-refused, head-memory, good, memory, row-refused, memory-count, done}
 use Rattle.sheet.proofs.load_sheet.Statement.{statement}
 use Rattle.sheet.proofs.load_sheet.Tie as tie

@@ -6,7 +6,8 @@ use Prim.Native.Nat.{_+_, _*_, _^_, _≤_, _-_}
 use native.Mathlib.Nat.{sub-zero}
 use native.Mathlib.Omega.{arith}
 use lib.Dec.{lit≤}
-use Rattle.sheet.specs.Memory.{product, linesIn}
+use Rattle.sheet.specs.Count.{product}
+use Rattle.row.specs.Memory.{linesIn}
 use Rattle.sheet.proofs.Count.{product-step, product-end, power-step, power-fits}
 use Rattle.sheet.proofs.product_of.Statement.{statement}
 use Rattle.sheet.proofs.product_of.Tie as tie

@@ -5,11 +5,13 @@ use mathlib.Core.Path.{_≡_, refl, sym, ap, _∙_}
 use Prim.Native.Nat.{_+_, _≤_, _-_}
 use native.Mathlib.Omega.{arith}
 use lib.ListN.{length}
-use Rattle.sheet.specs.declared.Stand.{Stand}
-use Rattle.sheet.specs.declared.Parsed.the-variants.{Row}
-use Rattle.sheet.specs.Row.{advance, lineOf}
+use Rattle.rules.specs.declared.Stand.{Stand}
+use Rattle.row.specs.declared.Parsed.the-variants.{Row}
+use Rattle.rules.specs.Rules.{advance}
+use Rattle.row.specs.Row.{lineOf}
 use Rattle.sheet.specs.Reading.{after, rowBytes}
-use Rattle.sheet.proofs.Loop.{Within, within-start, within-enter, Left, left-start, left-on, left-stop, left-none, step-bad, step-refused, part-row, row-length, put-length, within-after}
+use Rattle.sheet.proofs.Loop.{Within, within-start, within-enter, Left, left-start, left-on, left-stop, left-none, step-bad, step-refused, part-row, row-length, within-after}
+use Rattle.row.proofs.Memory.{put-length}
 use Rattle.sheet.proofs.read_rows.Statement.{statement}
 use Rattle.sheet.proofs.read_rows.Tie as tie
 

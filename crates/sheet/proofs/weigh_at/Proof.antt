@@ -3,7 +3,8 @@
 use mathlib.Core.Path.{_∙_, ap}
 use Prim.Native.Nat.{ℕ}
 use native.Mathlib.Omega.{arith}
-use Rattle.sheet.specs.Memory.{weighLine, lineIn}
+use Rattle.sheet.specs.Count.{weighLine}
+use Rattle.row.specs.Memory.{lineIn}
 use Rattle.sheet.proofs.Count.{weighs-own, weighs-none}
 use borrow.Author.Needs.{needs}
 use Rattle.sheet.proofs.weigh_at.Statement.{statement}

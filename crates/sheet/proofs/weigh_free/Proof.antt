@@ -1,6 +1,6 @@
 -- `weigh_free` meets its contract: the ends, one after another.
 -- Assumes nothing.
-use Rattle.sheet.specs.Memory.{weightFree}
+use Rattle.sheet.specs.Count.{weightFree}
 use borrow.Author.Tests.{eq-eqb, ne-eqb}
 use native.Mathlib.Omega.{arith}
 use mathlib.Core.Path.{sym, _∙_}

@@ -4,7 +4,7 @@ use mathlib.Core.Path.{_≡_}
 use Prim.Native.Nat.{_+_, _≤_, _-_}
 use native.Mathlib.Nat.{sub-zero}
 use native.Mathlib.Omega.{arith}
-use Rattle.sheet.specs.Memory.{listed, tagAt, tagsOf}
+use Rattle.row.specs.Memory.{listed, tagAt, tagsOf}
 use Rattle.verdict.specs.Memory.{leading}
 use Rattle.verdict.proofs.Matchings.{lead-end, lead-other, lead-on}
 use Rattle.verdict.proofs.leading_rows.Statement.{statement}

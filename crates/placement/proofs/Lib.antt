@@ -1,0 +1,9 @@
+pub mod Standing
+pub mod Placing
+pub mod Found
+pub mod Matchings
+pub mod Turn
+pub mod Following
+pub mod Jump
+pub mod Onward
+pub mod Starting
