@@ -29,7 +29,13 @@ fn put(positions: &mut [u32], p: u32, x: u32) -> bool
 }
 
 // One row further: its point is placed, or its test is passed; or it cannot be met, and the positions stay.
-fn advance(ticks: &[u32], events: &[u32], n: u32, positions: &mut [u32], row: pattern::Row) -> bool
+pub fn advance(
+    ticks: &[u32],
+    events: &[u32],
+    n: u32,
+    positions: &mut [u32],
+    row: pattern::Row,
+) -> bool
     requires { ⌜ Held (now ticks) (now events) n ⌝ }
     ensures met { λ r. ⌜ r ≡ isSome (advanceIn (runAt (now (ticks .entry)) (now (events .entry)) n) (now (positions .entry)) (decode (row .kind) (row .p) (row .q) (row .a) (row .b) (row .set))) ⌝ }
     ensures placed { λ _. ⌜ now (positions .exit) ≡ orKeep (now (positions .entry)) (advanceIn (runAt (now (ticks .entry)) (now (events .entry)) n) (now (positions .entry)) (decode (row .kind) (row .p) (row .q) (row .a) (row .b) (row .set))) ⌝ }
