@@ -13,8 +13,6 @@ use Rattle.row.specs.Memory.{put, lay, sectionAt, lineIn}
 use Rattle.introduction.specs.Bringing.{NoneBefore, uses, marked, wanted, brought}
 use Rattle.row.proofs.Memory.{lay-append, lay-one}
 
--- The rows that a denial brings
-
 module _ (m : List ℕ) (s : ℕ) where
   pub none-more : (i : ℕ) → NoneBefore m s i → (sectionAt m i ≡ s → ⊥) → NoneBefore m s (i + 1)
   unfolding lineIn

@@ -20,7 +20,7 @@ use Rattle.antiscenario.specs.Judge.{refusalOf}
 use Rattle.antiscenario.specs.Held.{Ready}
 use Rattle.search.specs.Searching.{filled, Searched, unsearched, searched, searchRows, searchOf, Matches, Told}
 use Rattle.placement.specs.Matching.{isFound}
-use Rattle.plan.proofs.Due.{never}
+use Rattle.scenario.proofs.Base.{never}
 
 -- Rows in memory
 

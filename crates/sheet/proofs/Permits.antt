@@ -13,14 +13,14 @@ use borrow.Author.Tests.{eqb-true, eqb-false, leb-true, ltb-true, not-true, eq-e
 use Rattle.scenario.specs.Rows.{Row, point, next, last, earlier, later, before, apart, same, free, within, outside, event, full-set, lower-half, upper-half, introduced, points, elem}
 use Rattle.scenario.specs.Fields.{Tagged, fields}
 use Rattle.scenario.specs.Reading.{Ordinary, Counted, Seen, first, final, antecedent as seen-antecedent, own as seen-own}
-use Rattle.scenario.proofs.Base.{elem-at, Order, lower, level, upper, order}
+use Rattle.scenario.proofs.Base.{never, elem-at, Order, lower, level, upper, order}
 use Rattle.scenario.proofs.Reading.{counted-in, counted-all}
 use Rattle.scenario.proofs.Halves.{lower-half-fits, upper-half-fits, halves-fit, empty-halves}
 use Rattle.row.specs.declared.Line.{Line}
 use Rattle.rules.specs.Rules.{ordinary, known, isDue, knownBut, ordinaryBut, bothOrdinary, kindFits, pFits, originFits, qFits, setOnly, bothZero, restFits}
 use Rattle.sheet.specs.Text.{Fits, numbersOf}
 use Rattle.sheet.specs.Valid.{rowsOf, Introduced, OrdinaryPoint, KnownPoint, the-start, the-close, an-ordinary, last-point, Due, Pair, SomeEvents, Permitted}
-use Rattle.sheet.proofs.Points.{both-true, never, ordinary-seen, ordinary-plain, due-is}
+use Rattle.sheet.proofs.Points.{both-true, ordinary-seen, ordinary-plain, due-is}
 
 -- Tests
 
@@ -121,7 +121,7 @@ module _ (front : List Tagged) (i a c : ℕ) (F : Found front i a c) where
       go true y z ex ey ez e = the-start (eqb-true m 0 ex)
       go false true z ex ey ez e = the-close (eqb-true m 99 ey)
       go false false true ex ey ez e = an-ordinary (ordinary-out m ez)
-      go false false false ex ey ez e = absurd (never e)
+      go false false false ex ey ez e = never e
 
   -- Numbers due
 

@@ -12,6 +12,7 @@ use Rattle.columns.specs.Number.{largest}
 use Rattle.scenario.specs.Rows.{Row, set-of, lower-half, upper-half, introduced, needs}
 use Rattle.scenario.specs.Fields.{five, fields, decode, rowOf}
 use Rattle.scenario.specs.Reading.{All, Ordinary, Seen, first, final, antecedent as seen-antecedent, own as seen-own, RowRead}
+use Rattle.scenario.proofs.Base.{never}
 use Rattle.scenario.proofs.Halves.{lower-half-of, upper-half-of, set-of-events}
 use Rattle.scenario.proofs.Numbers.{any-kind}
 use Rattle.rules.specs.declared.Stand.{Stand}
@@ -20,14 +21,11 @@ use Rattle.rules.proofs.Arms.{kind-high}
 
 pub both-true : (a b : Bool) → (a && b) ≡ true → (a ≡ true) × (b ≡ true)
 both-true true b e = (refl, e)
-both-true false b e = let z : _≡_ {A = ℕ} 0 1 = cc in absurd (omega arith)
+both-true false b e = never e
 
 either-true : (a b : Bool) → (a || b) ≡ true → (a ≡ true) ⊎ (b ≡ true)
 either-true true b e = inl refl
 either-true false b e = inr e
-
-pub never : false ≡ true → ⊥
-never e = let z : _≡_ {A = ℕ} 0 1 = cc in omega arith
 
 -- Points that may be used
 
@@ -85,7 +83,7 @@ module _ (s a c : ℕ) (s1 : 1 ≤ s) (s6 : s ≤ 6) (a4 : a ≤ 4) (c8 : c ≤ 
   unfolding kindFits pFits qFits originFits decode
   cons-row =
       any-kind ConsRow
-      (λ e f g. absurd (never e))
+      (λ e f g. never e)
       (λ e f g. absurd (let z = eqb-true s 0 e in omega arith))
       (λ e f g. record { valid = tt; due = (due-is (10 * s) 8 c p f, tt); known = (known-but s a c q 99 g, tt) })
       (λ e f g. record { valid = tt; due = (due-is (10 * s) 8 c p f, tt); known = (known-but s a c q 0 g, tt) })
@@ -123,12 +121,12 @@ module _ (a p q x b : ℕ) where
   unfolding kindFits pFits qFits originFits decode
   ante-row =
       any-kind Ante
-      (λ e f g. absurd (never e))
+      (λ e f g. never e)
       (λ e f g. record { due = (due-first f, tt); known = tt })
-      (λ e f g. absurd (never e))
-      (λ e f g. absurd (never e))
-      (λ e f g. absurd (never e))
-      (λ e f g. absurd (never e))
+      (λ e f g. never e)
+      (λ e f g. never e)
+      (λ e f g. never e)
+      (λ e f g. never e)
       (λ e f g. record { due = tt; known = (ordinary-seen 0 a 0 p f, (ordinary-seen 0 a 0 q (ordinary-but 0 a 0 q p g), tt)) })
       (λ e f g. record { due = tt; known = (ordinary-seen 0 a 0 p f, (ordinary-seen 0 a 0 q (ordinary-but 0 a 0 q p g), tt)) })
       (λ e f g. record { due = tt; known = (ordinary-seen 0 a 0 p f, (ordinary-seen 0 a 0 q (ordinary-but 0 a 0 q p g), tt)) })
@@ -156,7 +154,7 @@ module _ (at : Stand) (p q x b : ℕ) where
     unfolding kindFits advance decode
     cons-next =
         any-kind (λ (k : ℕ). kindFits s k ≡ true → ConsNext k)
-        (λ e. absurd (never e))
+        (λ e. never e)
         (λ e. absurd (let z = eqb-true s 0 e in omega arith))
         (λ e. (refl, omega arith))
         (λ e. (refl, omega arith))
@@ -175,12 +173,12 @@ module _ (at : Stand) (p q x b : ℕ) where
   unfolding kindFits advance decode
   ante-next =
       any-kind (λ (k : ℕ). kindFits 0 k ≡ true → AnteNext k)
-      (λ e. absurd (never e))
+      (λ e. never e)
       (λ e. (omega arith, refl))
-      (λ e. absurd (never e))
-      (λ e. absurd (never e))
-      (λ e. absurd (never e))
-      (λ e. absurd (never e))
+      (λ e. never e)
+      (λ e. never e)
+      (λ e. never e)
+      (λ e. never e)
       (λ e. (omega arith, refl))
       (λ e. (omega arith, refl))
       (λ e. (omega arith, refl))

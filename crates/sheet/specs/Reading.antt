@@ -78,6 +78,8 @@ rowsFrom k s i (suc left) at =
     onLine (lineOf (rowBytes s i)) (stop row-malformed (suc i)) (λ l.
     cond (eqb (refusal k at l) 0) (more l (rowsFrom k s (suc i) left (after at l))) (stop (refusal k at l) (suc i)))
 
+-- The sheet of the rows
+
 -- the rows of section i, in sheet order
 unfoldable pub section : ℕ → List Line → List Row
 section i [] = []

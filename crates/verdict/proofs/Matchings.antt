@@ -15,7 +15,7 @@ use Rattle.scenario.specs.Walk.{walk}
 use Rattle.scenario.specs.Sheet.{Sheet, Answer, nothing, found, Says, matching, no-larger, all, env, count as countOf, antiscenario, chosen, choices, choose, total, flat}
 use Rattle.scenario.specs.Search.{least, smallest-matching, stopped, is-violating, check, faults}
 use Rattle.scenario.specs.Fields.{Tagged, tagged}
-use Rattle.scenario.proofs.Base.{both, pair, all-map, all-elem}
+use Rattle.scenario.proofs.Base.{both, pair, never, all-map, all-elem}
 use Rattle.scenario.specs.Reading.{All, Ordinary, SheetRead, Pattern}
 use Rattle.scenario.proofs.Rules.{Laws}
 use Rattle.scenario.proofs.Place.{map-same, env-map}
@@ -42,7 +42,6 @@ use Rattle.sheet.specs.Held.{sheetAt, SheetHeld}
 use Rattle.verdict.specs.Memory.{leading, AntecedentPlanned}
 use Rattle.consequent.proofs.Walk.{tag, faults-length, base-elsewhere}
 use Rattle.verdict.proofs.Faults.{all-halt, fault-rows}
-use Rattle.plan.proofs.Due.{never}
 use Rattle.placement.proofs.Matchings.{lex-first, past, past-below}
 use Rattle.placement.proofs.Turn.{still, turn-keeps, turn-none, turn-matches, turn-hit, turn-miss, turn-last, turn-on, turn-falls, point-small, point-on, passed-is, passed-keeps, passed-begun}
 

@@ -13,7 +13,7 @@ use Rattle.runlog.specs.Held.{runAt}
 use Rattle.row.specs.Memory.{rowsOf}
 use Rattle.pattern.specs.Placing.{by}
 use Rattle.plan.specs.Tables.{point-count, row-count, pointsIn}
-use Rattle.plan.proofs.Due.{never}
+use Rattle.scenario.proofs.Base.{never}
 use Rattle.placement.specs.Matching.{isFound, after, next-matching}
 use Rattle.placement.proofs.Starting.{blank, fixture, roomy, prepared, unmatched, smallest-next}
 use Rattle.search.specs.Searching.{filled}

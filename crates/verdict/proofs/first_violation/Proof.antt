@@ -16,7 +16,7 @@ use Rattle.sheet.specs.Held.{sheetAt}
 use Rattle.pattern.specs.Placing.{by}
 use Rattle.plan.specs.Due.{ready}
 use Rattle.plan.specs.Tables.{point-count, row-count, pointsIn, slotsIn}
-use Rattle.plan.proofs.Due.{never}
+use Rattle.scenario.proofs.Base.{never}
 use Rattle.placement.specs.Placing.{Fixture, Begun}
 use Rattle.placement.proofs.Starting.{blank as blank-env, roomy}
 use Rattle.placement.proofs.Turn.{still}
