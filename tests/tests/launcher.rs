@@ -1,6 +1,7 @@
 //! ./satskhubo and build.sh in a small tree of their own, where `rt` and `cargo` are stand-ins that say when they are called.
 mod common;
 use common::{as_nobody, said, scratch, top, until, Public};
+use std::ffi::OsStr;
 use std::fs;
 use std::os::unix::fs::{symlink, PermissionsExt};
 use std::os::unix::process::{CommandExt, ExitStatusExt};
@@ -84,16 +85,19 @@ impl Tree {
         self.top.join(name)
     }
 
-    fn command(&self) -> Command {
-        let mut command = Command::new(self.path("satskhubo"));
+    fn with_tools(&self, program: impl AsRef<OsStr>) -> Command {
+        let mut command = Command::new(program);
         command.env("PATH", format!("{}:{}", self.tools.display(), std::env::var("PATH").unwrap())).stdin(Stdio::null());
         command
     }
 
+    fn command(&self) -> Command {
+        self.with_tools(self.path("satskhubo"))
+    }
+
     fn install(&self, prefix: &str) -> Output {
-        let mut command = Command::new("sh");
-        command.arg(self.path("install.sh")).arg(prefix).current_dir(self.top.parent().unwrap()).stdin(Stdio::null());
-        command.env("PATH", format!("{}:{}", self.tools.display(), std::env::var("PATH").unwrap()));
+        let mut command = self.with_tools("sh");
+        command.arg(self.path("install.sh")).arg(prefix).current_dir(self.top.parent().unwrap());
         command.output().expect("install.sh runs")
     }
 
@@ -123,9 +127,12 @@ impl Tree {
     }
 
     /// A run in a group of its own, which Ctrl-C is sent to as by a terminal; what it says on standard error goes to a file.
+    /// The tests may themselves ignore Ctrl-C (nohup, a job in the background); the run does not.
     fn start(&self, heard: &str) -> Child {
         let heard = fs::File::create(self.tools.join(heard)).unwrap();
-        self.command().stdout(Stdio::piped()).stderr(heard).process_group(0).spawn().expect("the launcher starts")
+        let mut command = self.with_tools("env");
+        command.arg("--default-signal=INT,TERM,HUP").arg(self.path("satskhubo"));
+        command.stdout(Stdio::piped()).stderr(heard).process_group(0).spawn().expect("the launcher starts")
     }
 
     fn heard(&self, heard: &str) -> String {
