@@ -33,8 +33,11 @@ fn number(sheet: &Sheet, faults: &[Fault], choices: &[Choice]) -> Option<u64> {
 fn denies(antiscenario: &Sheet, faults: &[Fault], choices: &[Choice]) -> bool {
     faults.iter().zip(choices).all(|(fault, &choice)| {
         let section: Vec<Row> = antiscenario.section(fault.consequent).copied().collect();
-        let denial = denial::rows(fault.row, choice);
-        !denial.is_empty() && section.ends_with(&denial)
+        let far = section.last().and_then(|denying| denial::far_end(antiscenario, fault.row, denying));
+        far.is_some_and(|far| {
+            let denial = denial::rows(fault.row, choice, far);
+            !denial.is_empty() && section.ends_with(&denial)
+        })
     })
 }
 

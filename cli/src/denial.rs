@@ -1,5 +1,6 @@
-//! Document 01: denials. How many each row gives, and the rows in which each ends; document 02, A1: with both halves of a set.
-use crate::sheet::{is_end, Kind, Row, CLOSE, START};
+//! Document 01: denials. How many each row gives, and the rows in which each ends; document 02, A1: with both halves of a set, and A8: of a missing
+//! point with the far end that the library has written.
+use crate::sheet::{is_end, Kind, Row, Sheet, CLOSE, START};
 
 /// Which of a row's denials: some have a second.
 #[derive(Clone, Copy, Debug, PartialEq, Eq)]
@@ -23,14 +24,26 @@ pub fn between_point(section: u32) -> u32 {
     10 * section + 9
 }
 
+/// How far the point of NEXT or LAST is missing, by the FREE row that denies it: to the close or from the start, or an antecedent point that is not q.
+/// The others have no far end.
+pub fn far_end(antiscenario: &Sheet, row: &Row, denying: &Row) -> Option<u32> {
+    let (far, long) = match row.kind {
+        Kind::Next => (denying.q, CLOSE),
+        Kind::Last => (denying.p, START),
+        _ => return Some(START),
+    };
+    let is_short = far != row.q && antiscenario.section(0).any(|point| point.kind == Kind::Point && point.p == far);
+    (far == long || is_short).then_some(far)
+}
+
 /// The rows of a denial behind the introducing rows that it brings.
-pub fn rows(row: &Row, choice: Choice) -> Vec<Row> {
+pub fn rows(row: &Row, choice: Choice, far: u32) -> Vec<Row> {
     let Row { section, p, q, a, b, .. } = *row;
     let of = |kind, p, q, a, b| vec![Row { section, kind, p, q, a, b }];
     match (row.kind, choice) {
         (Kind::Point | Kind::Earlier | Kind::Later, _) => Vec::new(),
-        (Kind::Next, _) => of(Kind::Free, q, CLOSE, a, b),
-        (Kind::Last, _) => of(Kind::Free, START, q, a, b),
+        (Kind::Next, _) => of(Kind::Free, q, far, a, b),
+        (Kind::Last, _) => of(Kind::Free, far, q, a, b),
         (Kind::Before, Choice::First) => of(Kind::Before, q, p, 0, 0),
         (Kind::Before, Choice::Second) | (Kind::Apart, _) => of(Kind::Same, p, q, 0, 0),
         (Kind::Same, _) => of(Kind::Apart, p, q, 0, 0),

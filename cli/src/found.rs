@@ -55,7 +55,8 @@ impl<'a> Walk<'a> {
             self.place(earlier)?;
         }
         match row.kind {
-            Kind::Next | Kind::Last => Some(Finding::NoLine),
+            Kind::Next => self.next(row).is_none().then_some(Finding::NoLine),
+            Kind::Last => self.last(row).is_none().then_some(Finding::NoLine),
             Kind::Free => self.between(row).map(Finding::Between),
             _ => Some(Finding::Positions),
         }

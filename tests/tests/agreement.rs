@@ -47,7 +47,7 @@ fn the_families_of_newer_boards_whole() {
 #[test]
 fn a_part_of_the_larger_families() {
     let logs = family_logs();
-    for (family, stride) in families::large().into_iter().zip([37, 2003, 397]) {
+    for (family, stride) in families::large().into_iter().zip([37, 2003, 397, 211]) {
         let all = family.sheets.len() * logs.len();
         let pair =
             |index: usize| Pair { sheet: family.sheets[index / logs.len()].clone(), log: logs[index % logs.len()].clone() };

@@ -3,12 +3,14 @@
 mod common;
 use satskhubo_tests::compare::{compare, compare_once, Comparison, Mismatch};
 use satskhubo_tests::expected::{Blundering, VIOLATED};
+use satskhubo_tests::generate::chains::{chain_logs, chains};
 use satskhubo_tests::generate::families::{self, Family};
 use satskhubo_tests::generate::logs::log_of;
-use satskhubo_tests::generate::pairs::{large_pair_of, pair_of};
+use satskhubo_tests::generate::pairs::{chained_pair_of, large_pair_of, pair_of};
 use satskhubo_tests::generate::sheets::sheet_s;
 use satskhubo_tests::generate::Pair;
-use satskhubo_tests::reference::blunder::Blunder;
+use satskhubo_tests::outcome::Table;
+use satskhubo_tests::reference::blunder::{Blunder, IN_FAR_ENDS};
 use satskhubo_tests::reference::log::Log;
 use satskhubo_tests::reference::operations::open;
 use satskhubo_tests::reference::sheet::{self, kind::*, Row, CLOSE, START};
@@ -53,6 +55,22 @@ const AT_LIMITS: [Blunder; 6] = [
     Blunder::BeforeA9,
 ];
 
+/// Document 02, A8: the slips that let a run be missed or invented.
+const IN_CHAINS: [Blunder; 8] = [
+    Blunder::NoOrder,
+    Blunder::OrderOfConsequent,
+    Blunder::OrderOfBoth,
+    Blunder::LowestReached,
+    Blunder::LastChainReversed,
+    Blunder::LastOrderReversed,
+    Blunder::OwnPointInOrder,
+    Blunder::ShortUpperHalfLost,
+];
+/// Document 02, A8: the other slips keep demand 3, as another permitted end does; texts, judgements and searches show them.
+fn in_texts_alone() -> impl Iterator<Item = Blunder> {
+    IN_FAR_ENDS.into_iter().filter(|blunder| !IN_CHAINS.contains(blunder))
+}
+
 fn break_demand_3(name: &str, breaks: impl Fn(&mut Comparison<Blundering>) -> bool) {
     for blunder in AGAINST_DEMAND_3.into_iter().chain(IN_HALVES).chain([Blunder::OutsideAsBefore]) {
         let broken = |seed: &u64| breaks(&mut Comparison::new(&Blundering(blunder), &pair_of(*seed), *seed));
@@ -73,13 +91,27 @@ fn demand_3_alone_finds_them() {
 }
 
 /// With the reference blundering as the side does, so that no operation differs.
+fn is_broken_where_both_blunder(comparison: &mut Comparison<Blundering>) -> bool {
+    let Blundering(blunder) = *comparison.side;
+    comparison.opened = open(&comparison.pair.sheet, &comparison.pair.log, blunder);
+    comparison.demand_3().is_err()
+}
+
 #[test]
 fn demand_3_finds_them_where_both_blunder() {
-    break_demand_3("demand 3 of both", |comparison| {
-        let Blundering(blunder) = *comparison.side;
-        comparison.opened = open(&comparison.pair.sheet, &comparison.pair.log, blunder);
-        comparison.demand_3().is_err()
-    });
+    break_demand_3("demand 3 of both", is_broken_where_both_blunder);
+}
+
+/// What demand 3 cannot find, so that only the table, text by text, does.
+#[test]
+fn demand_3_does_not_find_another_end() {
+    for blunder in in_texts_alone() {
+        for seed in 0..MOST_PAIRS {
+            let (side, pair) = (Blundering(blunder), chained_pair_of(seed));
+            let is_broken = is_broken_where_both_blunder(&mut Comparison::new(&side, &pair, seed));
+            assert!(!is_broken, "{blunder:?} breaks demand 3 at pair {}", seed + 1);
+        }
+    }
 }
 
 /// Every so-many-th pair of families that the gate compares whole is enough.
@@ -105,10 +137,32 @@ fn the_families_of_newer_boards_find_them() {
     are_found_in(families::boards(), &families::board_logs(), IN_HALVES.into_iter().chain(read_otherwise));
 }
 
+/// Document 02, A8.
+#[test]
+fn the_families_of_chains_find_them() {
+    are_found_in(chains(), &chain_logs(), IN_FAR_ENDS.into_iter());
+}
+
+/// The larger families' chains have two antecedent points, one of the consequent, and sets of the lower half alone.
+#[test]
+fn the_larger_families_find_them() {
+    let family = families::large().pop().into_iter().collect();
+    let needs_more = [
+        Blunder::LowestReachedOrLong,
+        Blunder::OrderOfOneStep,
+        Blunder::TwoSteps,
+        Blunder::OwnPointInOrder,
+        Blunder::ShortUpperHalfLost,
+    ];
+    let blunders = IN_FAR_ENDS.into_iter().filter(|blunder| !needs_more.contains(blunder));
+    are_found_in(family, &families::logs(), blunders);
+}
+
 #[test]
 fn without_a_blunder_nothing_is_found() {
     assert_eq!(found_after(Blunder::None, PAIRS_WITHOUT, pair_of), None);
     assert_eq!(found_after(Blunder::None, 6, large_pair_of), None);
+    assert_eq!(found_after(Blunder::None, PAIRS_WITHOUT, chained_pair_of), None);
 }
 
 #[test]
@@ -235,10 +289,138 @@ fn taking_ticks_as_exact() {
     is_found_between(Blunder::BeforeA9, [WITHIN, 0, 500], [0, 500]);
 }
 
+/// Document 02, A8: rows of kind, p and q, in the antecedent and in the consequent.
+type Brief<'a> = &'a [(u32, u32, u32)];
+
+/// A sheet of one consequent, with points 1, 2 and 3 of event 2 and missing ones of events 1 and 33.
+fn chained(antecedent: Brief, consequent: Brief) -> Vec<u8> {
+    let points = (1..=3).map(|p| Row::of_set(0, POINT, p, 0, 1 << 2));
+    let rows = |section, rows: Brief| {
+        let set = |kind| if kind == BEFORE { 0 } else { 1 << 1 | 1 << 33 };
+        rows.iter().map(|&(kind, p, q)| Row::of_set(section, kind, p, q, set(kind))).collect::<Vec<_>>()
+    };
+    sheet::text(1, &points.chain(rows(0, antecedent)).chain(rows(1, consequent)).collect::<Vec<_>>())
+}
+
+/// The blunder is found among random pairs, and writes some denial of this sheet otherwise.
+fn is_found_in_chains(blunder: Blunder, antecedent: Brief, consequent: Brief) {
+    is_found_in(blunder, chained_pair_of);
+    let text = chained(antecedent, consequent);
+    let written = |blunder| {
+        let opened = open(&text, b"", blunder);
+        (1..=opened.read_sheet().unwrap()).map(|number| opened.write(number, 3437)).collect::<Vec<_>>()
+    };
+    assert_ne!(written(blunder), written(Blunder::None), "{blunder:?}");
+}
+
+/// So it is, and on these events no pattern matches where the sheet is violated, or one where it is not.
+fn breaks_demand_3_in_chains(blunder: Blunder, antecedent: Brief, consequent: Brief, events: &[u32]) {
+    assert!(IN_CHAINS.contains(&blunder));
+    is_found_in_chains(blunder, antecedent, consequent);
+    let lines: Vec<(u32, u32)> = (1..).zip(events.iter().copied()).collect();
+    let pair = Pair { sheet: chained(antecedent, consequent), log: log_of(&lines).text() };
+    for (blunder, is_due) in [(blunder, true), (Blunder::None, false)] {
+        let is_broken = is_broken_where_both_blunder(&mut Comparison::new(&Blundering(blunder), &pair, 0));
+        assert_eq!(is_broken, is_due, "{blunder:?}");
+    }
+}
+
+/// Document 02's readings, on three lines of one event, point 1 on the last and 2 on the first: violated, and no pattern matches.
+fn breaks_demand_3_at_3_1(blunder: Blunder, further: &[Row]) {
+    let points = [1, 2].map(|p| Row::of_set(0, POINT, p, 0, 2));
+    let consequent = [Row::of_set(1, NEXT, 11, 1, 2), Row::new(1, BEFORE, 11, 2, 0, 0)];
+    let rows = [&points[..], &consequent, further].concat();
+    let pair = Pair { sheet: sheet::text(1, &rows), log: log_of(&[(1, 1), (2, 1), (3, 1)]).text() };
+    let matches_at_3_1 = |blunder| {
+        let opened = open(&pair.sheet, &pair.log, blunder);
+        let met = |number, at: &[u32]| opened.judged(number, &Table::of(at, 0)).met == 1;
+        let with_11 = |number| (1..=3).any(|position| met(number, &[3, 1, position]));
+        (1..=opened.read_sheet().unwrap()).any(|number| met(number, &[3, 1]) || with_11(number))
+    };
+    assert_eq!((matches_at_3_1(blunder), matches_at_3_1(Blunder::None)), (false, true), "{blunder:?}");
+    assert!(is_broken_where_both_blunder(&mut Comparison::new(&Blundering(blunder), &pair, 0)), "{blunder:?}");
+}
+
+/// Document 000's section 5.1 as printed; z may then stand before q.
+#[test]
+fn asking_no_order_of_the_antecedent() {
+    breaks_demand_3_in_chains(Blunder::NoOrder, &[], &[(NEXT, 11, 1), (BEFORE, 11, 2)], &[2, 33, 2]);
+    breaks_demand_3_at_3_1(Blunder::NoOrder, &[]);
+}
+
+#[test]
+fn taking_the_order_from_the_consequent() {
+    let consequent = [(NEXT, 11, 1), (BEFORE, 11, 2), (BEFORE, 1, 11)];
+    for blunder in [Blunder::OrderOfConsequent, Blunder::OrderOfBoth] {
+        breaks_demand_3_in_chains(blunder, &[], &consequent, &[2, 1, 2]);
+        breaks_demand_3_at_3_1(blunder, &[Row::new(1, BEFORE, 1, 11, 0, 0)]);
+    }
+}
+
+#[test]
+fn chains_of_rows_of_both_sections() {
+    is_found_in_chains(Blunder::MixedChain, &[(BEFORE, 1, 3), (BEFORE, 2, 3)], &[(NEXT, 11, 1), (BEFORE, 11, 2)]);
+}
+
+#[test]
+fn another_of_several_ends() {
+    let (order, to_both) = ([(BEFORE, 1, 2), (BEFORE, 1, 3)], [(NEXT, 11, 1), (BEFORE, 11, 2), (BEFORE, 11, 3)]);
+    is_found_in_chains(Blunder::HighestEnd, &order, &to_both);
+    is_found_in_chains(Blunder::LowestReachedOrLong, &order[1..], &to_both);
+    breaks_demand_3_in_chains(Blunder::LowestReached, &order[1..], &to_both, &[2, 33, 2, 2]);
+}
+
+#[test]
+fn q_itself_as_the_end() {
+    let to_q = [(NEXT, 11, 1), (BEFORE, 11, 1)];
+    is_found_in_chains(Blunder::QToItself, &[], &to_q);
+    is_found_in_chains(Blunder::QTaken, &[(BEFORE, 1, 2), (BEFORE, 2, 1)], &to_q);
+}
+
+#[test]
+fn last_as_next() {
+    let (order, turned) = ([(BEFORE, 1, 2)], [(BEFORE, 2, 1)]);
+    breaks_demand_3_in_chains(Blunder::LastChainReversed, &order, &[(LAST, 11, 2), (BEFORE, 11, 1)], &[33, 2, 2]);
+    breaks_demand_3_in_chains(Blunder::LastOrderReversed, &turned, &[(LAST, 11, 2), (BEFORE, 1, 11)], &[2, 33, 2]);
+}
+
+#[test]
+fn chains_and_orders_cut_short() {
+    let of_two = [(NEXT, 11, 1), (BEFORE, 2, 3), (BEFORE, 11, 2)];
+    is_found_in_chains(Blunder::ChainOfOneStep, &[(BEFORE, 1, 3)], &of_two);
+    is_found_in_chains(Blunder::OnePass, &[(BEFORE, 1, 3)], &of_two);
+    is_found_in_chains(Blunder::OrderOfOneStep, &[(BEFORE, 1, 2), (BEFORE, 2, 3)], &[(NEXT, 11, 1), (BEFORE, 11, 3)]);
+    let of_three = [(NEXT, 11, 1), (NEXT, 12, 11), (BEFORE, 11, 12), (BEFORE, 12, 2), (BEFORE, 2, 3)];
+    is_found_in_chains(Blunder::TwoSteps, &[(BEFORE, 1, 3)], &of_three);
+    let earlier = [(BEFORE, 2, 3), (NEXT, 11, 1), (BEFORE, 11, 2)];
+    is_found_in_chains(Blunder::ChainOfLaterRows, &[(BEFORE, 1, 3)], &earlier);
+}
+
+#[test]
+fn the_order_of_a_point_of_the_consequent_and_of_an_end() {
+    let from_11 = [(NEXT, 11, 1), (NEXT, 12, 11), (BEFORE, 12, 2)];
+    breaks_demand_3_in_chains(Blunder::OwnPointInOrder, &[], &from_11, &[2, 33, 2, 33]);
+    is_found_in_chains(Blunder::EndsWantOrder, &[], &[(NEXT, 11, START), (BEFORE, 11, 1)]);
+    is_found_in_chains(Blunder::EndsWantOrder, &[], &[(LAST, 11, CLOSE), (BEFORE, 1, 11)]);
+}
+
+#[test]
+fn losing_the_upper_half_in_the_short_denial() {
+    let to_2 = [(NEXT, 11, 1), (BEFORE, 11, 2)];
+    breaks_demand_3_in_chains(Blunder::ShortUpperHalfLost, &[(BEFORE, 1, 2)], &to_2, &[2, 33, 2]);
+}
+
+/// What document 01 said before A8 is no longer what is written.
+#[test]
+fn staying_with_the_long_denial() {
+    is_found(Blunder::BeforeA8);
+    is_found_in_chains(Blunder::BeforeA8, &[(BEFORE, 1, 2)], &[(NEXT, 11, 1), (BEFORE, 11, 2)]);
+}
+
 /// On large sheets too, where demand 3 goes by placements.
 #[test]
 fn demand_3_finds_them_in_large_sheets() {
-    for blunder in [Blunder::ReverseOnly, Blunder::EndsBetween, Blunder::BringsAll, Blunder::OutsideAsBefore] {
+    for blunder in [Blunder::ReverseOnly, Blunder::EndsBetween, Blunder::BringsAll, Blunder::OutsideAsBefore, Blunder::NoOrder] {
         let is_large = |seed: &u64| open(&large_pair_of(*seed).sheet, b"", Blunder::None).read_sheet().unwrap() > 4096;
         let breaks = |seed: &u64| Comparison::new(&Blundering(blunder), &large_pair_of(*seed), *seed).demand_3().is_err();
         let pairs = (0..4 * MOST_PAIRS).filter(is_large).find(breaks);

@@ -1,16 +1,19 @@
-//! What the random pairs and their arguments reach: every kind in every section that permits it, limits at and next to distances, both verdicts,
-//! and every refusal; and what the families have.
+//! What the random pairs and their arguments reach: every kind in every section that permits it, limits at and next to distances, short denials,
+//! both verdicts, and every refusal; and what the families have.
 use satskhubo_tests::generate::arguments::{arguments_of, Arguments};
+use satskhubo_tests::generate::chains::chains;
 use satskhubo_tests::generate::families;
-use satskhubo_tests::generate::pairs::{large_pair_of, pair_of};
+use satskhubo_tests::generate::pairs::{chained_pair_of, has_short_denial, large_pair_of, long_pair_of, pair_of};
+use satskhubo_tests::generate::Pair;
 use satskhubo_tests::reference::antiscenario::antiscenario;
-use satskhubo_tests::reference::blunder::Blunder;
+use satskhubo_tests::reference::blunder::{Blunder, IN_FAR_ENDS};
 use satskhubo_tests::reference::columns::read_line;
+use satskhubo_tests::reference::far_end::far_end;
 use satskhubo_tests::reference::log::Log;
 use satskhubo_tests::reference::operations::{open, Opened, Verdict};
 use satskhubo_tests::reference::refusal::Refusal;
 use satskhubo_tests::reference::rows::positions_of;
-use satskhubo_tests::reference::sheet::{self, introduced, kind::*, Row, Sheet, CLOSE, START};
+use satskhubo_tests::reference::sheet::{self, introduced, is_end, kind::*, Row, Sheet, CLOSE, START};
 use satskhubo_tests::reference::weeded;
 use std::collections::BTreeMap;
 use std::io::Write;
@@ -288,6 +291,62 @@ fn large_pairs_reach_large_counts() {
     let wanted = ["many", "more than 32 bits"].iter().flat_map(|size| verdicts.map(|verdict| format!("{size}, {verdict}")));
     are_reached(&reached, &wanted.collect::<Vec<_>>());
     writeln!(std::io::stderr(), "of 1000 large pairs: {reached:?}").unwrap();
+}
+
+/// Document 02, A8: what a denial of NEXT or LAST is between.
+fn of_missing(reached: &mut Reached, sheet: &Sheet) {
+    for row in sheet.rows.iter().filter(|row| [NEXT, LAST].contains(&row.kind)) {
+        let length = if is_end(far_end(sheet, row)) { "long" } else { "short" };
+        let from = match row.q {
+            q if is_end(q) => "an end",
+            q if q < 10 => "the antecedent",
+            _ => "the consequent",
+        };
+        count(reached, format!("a {length} denial of kind {} from {from}", row.kind));
+    }
+}
+
+/// Short and long ones from an end and from the antecedent's points, and long ones from the consequent's.
+fn missing_from() -> Vec<String> {
+    let denials = [("short", "an end"), ("short", "the antecedent"), ("long", "an end"), ("long", "the antecedent")];
+    let all = denials.into_iter().chain([("long", "the consequent")]);
+    all.flat_map(|(length, from)| [NEXT, LAST].map(|kind| format!("a {length} denial of kind {kind} from {from}"))).collect()
+}
+
+/// Of so many pairs, at least so many in a hundred of the sheets that are accepted have a short denial.
+fn have_short_denials(name: &str, pair_of: fn(u64) -> Pair, pairs: u64, least: usize) {
+    let mut reached = Reached::new();
+    let sheets: Vec<Sheet> = (0..pairs).filter_map(|seed| sheet::read(&pair_of(seed).sheet, Blunder::None).ok()).collect();
+    sheets.iter().for_each(|sheet| of_missing(&mut reached, sheet));
+    let short = sheets.iter().filter(|sheet| has_short_denial(sheet)).count();
+    writeln!(std::io::stderr(), "{short} of {} sheets of {name} have a short denial: {reached:?}", sheets.len()).unwrap();
+    assert!(100 * short > least * sheets.len(), "{name}: {short} of {}", sheets.len());
+    if pairs > 1000 {
+        are_reached(&reached, &missing_from());
+    }
+}
+
+#[test]
+fn random_pairs_have_short_denials() {
+    have_short_denials("random pairs", pair_of, 4000, 10);
+    have_short_denials("large pairs", large_pair_of, 2000, 20);
+    have_short_denials("chained pairs", chained_pair_of, 4000, 40);
+    have_short_denials("long pairs", long_pair_of, 100, 10);
+}
+
+/// Each slip writes a denial of so many sheets otherwise.
+fn show_every_slip(name: &str, texts: &[Vec<u8>]) {
+    let denials = |text: &[u8], blunder| sheet::read(text, blunder).expect("a sheet with chains is accepted").denials;
+    for slip in IN_FAR_ENDS {
+        let shown = texts.iter().filter(|text| denials(text, slip) != denials(text, Blunder::None)).count() as u64;
+        assert!(shown >= OFTEN, "{slip:?} is shown by {shown} of {name}");
+    }
+}
+
+#[test]
+fn chains_show_every_slip() {
+    show_every_slip("chained pairs", &(0..4000).map(|seed| chained_pair_of(seed).sheet).collect::<Vec<_>>());
+    show_every_slip("the families", &chains().into_iter().flat_map(|family| family.sheets).collect::<Vec<_>>());
 }
 
 #[test]

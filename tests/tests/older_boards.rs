@@ -1,5 +1,5 @@
-//! Document 02, A1: sheets and logs that were accepted before keep every answer, A9's WITHIN on both sides; where EVENT is denied, the written text
-//! has the upper half too.
+//! Document 02, A1: sheets and logs that were accepted before keep every answer, A9's WITHIN and A8's denials on both sides; where EVENT is denied, the
+//! written text has the upper half too.
 mod common;
 use common::program::{SHEET, SUPPLIER, SUPPLIER_KEPT, SUPPLIER_LOG};
 use common::{tell, top};

@@ -124,7 +124,7 @@ fn random_sheets_on_many_logs() {
     let logs = many_logs(&logs_folder, 71, 400);
     let mut random = Random::new(72);
     let mut kinds = Vec::new();
-    const SHEETS: usize = 60;
+    const SHEETS: usize = 80;
     for round in 0..SHEETS {
         let text = random_sheet(&mut random, round);
         let name = file(&folder, "a-sheet", &text);

@@ -145,4 +145,4 @@ module _ (rows : List ℕ) (read : Answer) (L : SheetLoaded rows read) where
   all-six = six-lines lines (subst (All Six) tags-are (six-sections 0 (sheet .antecedent ∷ sheet .consequents) (omega (arith, L .held .read .count))))
 
   pub built-written : (number : ℕ) → built rows (read .rows) (read .k) (number - 1) ≡ map numbersOf (written sheet number)
-  built-written = built-is rows (read .rows) (λ i h. at-line Fair rows (read .rows) 0 all-fair i (omega arith) (omega arith)) (read .k)
+  built-written = built-is rows (read .rows) (λ i h. at-line Fair rows (read .rows) 0 all-fair i (omega arith) (omega arith)) (read .k) (L .held .read)

@@ -11,8 +11,9 @@ use borrow.Author.Tests.{eq-eqb, ne-eqb, ltb-true}
 use Rattle.scenario.proofs.Base.{Order, lower, level, upper, order}
 use Rattle.row.specs.Memory.{lineIn, linesIn}
 use Rattle.sheet.specs.Count.{weighLine, product}
+use Rattle.order.specs.Ending.{farIn}
 use Rattle.introduction.specs.Bringing.{uses, marked, wanted, brought}
-use Rattle.denial.specs.Build.{own, denied, denialFrom, chosenFrom, ofSection, built, farOf}
+use Rattle.denial.specs.Build.{own, denied, denialFrom, chosenFrom, ofSection, built}
 use Rattle.denial.proofs.Building.{own-short, counts}
 
 -- how many of the first i rows are of section s
@@ -90,29 +91,29 @@ module _ (m : List ℕ) where
       go true f = omega (arith, f)
       go false f = f
 
-  denied-few : (n i v : ℕ) → i ≤ n → length (denied m i v) ≤ tally m (lineIn m i .section) n + 3
+  denied-few : (n i v : ℕ) → i ≤ n → length (denied m n i v) ≤ tally m (lineIn m i .section) n + 3
   unfolding denied
   denied-few n i v h =
       let e : n - i + i ≡ n = omega arith in
       omega (
         arith,
-        length-append (brought m (lineIn m i .section) (marked (replicate 100 0) (uses (lineIn m i))) i) (own (farOf (lineIn m i)) (lineIn m i) v),
+        length-append (brought m (lineIn m i .section) (marked (replicate 100 0) (uses (lineIn m i))) i) (own (farIn m n (lineIn m i)) (lineIn m i) v),
         brought-few (lineIn m i .section) i (marked (replicate 100 0) (uses (lineIn m i))),
-        own-short (farOf (lineIn m i)) (lineIn m i) v,
+        own-short (farIn m n (lineIn m i)) (lineIn m i) v,
         tally-up (lineIn m i .section) i (n - i),
         ap (tally m (lineIn m i .section)) e,
       )
 
-  denial-few : (n s left i j : ℕ) → i + left ≤ n → length (denialFrom m s i left j) ≤ tally m s n + 3
+  denial-few : (n s left i j : ℕ) → i + left ≤ n → length (denialFrom m n s i left j) ≤ tally m s n + 3
   unfolding denialFrom
   denial-few n s zero i j h = omega arith
   denial-few n s (suc left) i j h = go (ltb j (weighLine s (lineIn m i))) refl (denial-few n s left (suc i) (j - weighLine s (lineIn m i)) (omega arith))
     where
-      go : (b : Bool) → ltb j (weighLine s (lineIn m i)) ≡ b → length (denialFrom m s (suc i) left (j - weighLine s (lineIn m i))) ≤ tally m s n + 3
-          → length (cond b (denied m i j) (denialFrom m s (suc i) left (j - weighLine s (lineIn m i)))) ≤ tally m s n + 3
+      go : (b : Bool) → ltb j (weighLine s (lineIn m i)) ≡ b → length (denialFrom m n s (suc i) left (j - weighLine s (lineIn m i))) ≤ tally m s n + 3
+          → length (cond b (denied m n i j) (denialFrom m n s (suc i) left (j - weighLine s (lineIn m i)))) ≤ tally m s n + 3
       go true e f =
           let c = counts s j (lineIn m i) (ltb-true j (weighLine s (lineIn m i)) e) .0 in
-          subst (λ (x : ℕ). length (denied m i j) ≤ tally m x n + 3) c (denied-few n i j (omega arith))
+          subst (λ (x : ℕ). length (denied m n i j) ≤ tally m x n + 3) c (denied-few n i j (omega arith))
       go false e f = f
 
   chosen-few : (n left s j : ℕ) → length (chosenFrom m n s left j) ≤ sum m n s left + 3 * left
@@ -121,7 +122,7 @@ module _ (m : List ℕ) where
   chosen-few n (suc left) s j =
       omega (
         arith,
-        length-append (denialFrom m s 0 n (j / product (suc s) left (linesIn m 0 n))) (chosenFrom m n (suc s) left (j % product (suc s) left (linesIn m 0 n))),
+        length-append (denialFrom m n s 0 n (j / product (suc s) left (linesIn m 0 n))) (chosenFrom m n (suc s) left (j % product (suc s) left (linesIn m 0 n))),
         denial-few n s n 0 (j / product (suc s) left (linesIn m 0 n)) (omega arith),
         chosen-few n left (suc s) (j % product (suc s) left (linesIn m 0 n)),
       )

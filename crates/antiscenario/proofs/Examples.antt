@@ -7,7 +7,8 @@ use Prim.Native.Nat.{ℕ}
 use lib.ListN.{length}
 use Rattle.columns.specs.Number.{fieldAt, numeral, scan}
 use Rattle.columns.specs.Spell.{spell, left, leftByte, lastByte}
-use Rattle.scenario.specs.Rows.{set-of, lower-half, upper-half, complement, meets, clear, below, between, points, denials, denying-rows, denying-free, end, far-end, closure, brings, elem}
+use Rattle.scenario.specs.Rows.{set-of, lower-half, upper-half, complement, meets, clear, below, between, points, denials, denying-rows, denying-free, end, gather, ascends, may-end, first-or, far-end, closure, brings, elem}
+use Rattle.scenario.specs.Links.{leads}
 use Rattle.scenario.specs.Fields.{fields, decode, tagged, written}
 use Rattle.scenario.specs.Sheet.{lookup, env, all, flat, is-line, matching, count, total, choices, choose, chosen, antiscenario}
 use Rattle.scenario.specs.Log.{inSet, hasAt, tick, sure, nearAt}
@@ -59,6 +60,10 @@ board =
     sheetText 1
     (six 0 1 1 0 0 2 ∷ six 1 3 11 1 0 1 ∷ six 1 9 11 1 0 256 ∷ six 1 2 12 1 8 2147483648 ∷ six 1 12 12 0 1 2147483648 ∷ six 1 12 1 0 4294967295 0 ∷ six 1 12 1 0 0 0 ∷ [])
 
+-- A8: points 1 and 2 in order; NEXT's point is before 2, LAST's after 1; and the same with no order between 1 and 2
+abbrev in-between : (order : List Line) → List ℕ
+in-between order = sheetText 1 ((six 0 1 1 0 2 0 ∷ six 0 1 2 0 2 0 ∷ order) ++ (six 1 2 11 1 8 4 ∷ six 1 6 11 2 0 0 ∷ six 1 3 12 2 16 0 ∷ six 1 6 1 12 0 0 ∷ []))
+
 -- Writing
 
 -- a sheet's bytes, a number m, and the bytes that are written
@@ -92,10 +97,15 @@ table =
     ∷ case board 5 (sheetText 1 (six 0 1 1 0 0 2 ∷ six 1 2 12 1 8 2147483648 ∷ six 1 12 12 0 4294967294 2147483647 ∷ []))
     ∷ case board 6 (sheetText 1 (six 0 1 1 0 0 2 ∷ six 1 12 1 0 0 4294967295 ∷ []))
     ∷ case board 7 (sheetText 1 (six 0 1 1 0 0 2 ∷ six 1 12 1 0 4294967295 4294967295 ∷ []))
+    -- A8: FREE q z a in place of FREE q 99 a, and FREE z q a; without the antecedent's order the long denials stay
+    ∷ case (in-between (six 0 6 1 2 0 0 ∷ [])) 1 (sheetText 1 (six 0 1 1 0 2 0 ∷ six 0 1 2 0 2 0 ∷ six 0 6 1 2 0 0 ∷ six 1 9 1 2 8 4 ∷ []))
+    ∷ case (in-between (six 0 6 1 2 0 0 ∷ [])) 4 (sheetText 1 (six 0 1 1 0 2 0 ∷ six 0 1 2 0 2 0 ∷ six 0 6 1 2 0 0 ∷ six 1 9 1 2 16 0 ∷ []))
+    ∷ case (in-between []) 1 (sheetText 1 (six 0 1 1 0 2 0 ∷ six 0 1 2 0 2 0 ∷ six 1 9 1 99 8 4 ∷ []))
+    ∷ case (in-between []) 4 (sheetText 1 (six 0 1 1 0 2 0 ∷ six 0 1 2 0 2 0 ∷ six 1 9 0 2 16 0 ∷ []))
     ∷ []
 
 pub written-examples : map (λ (c : Case). writtenText (c .sheet) (c .number)) table ≡ map (λ (c : Case). c .text) table
-unfolding complement set-of lower-half upper-half writtenText writtenLines lineFrom numbersOf written tagged fields chosen choose count total choices denials denying-rows denying-free end far-end closure brings elem decode
+unfolding complement set-of lower-half upper-half writtenText writtenLines lineFrom numbersOf written tagged fields chosen choose count total choices denials denying-rows denying-free end gather ascends leads may-end first-or points far-end closure brings elem decode
     sheetText headText rowsText rowText spell left leftByte lastByte fieldAt numeral scan
     answer taken closing headOf rowsFrom rowBytes after sheetOf section sections rowIn
     lineOf refusal sectionFits refusalWithin originFits kindFits pFits isDue ordinary known qFits knownBut ordinaryBut bothOrdinary restFits setOnly bothZero roomFits enter advance
@@ -177,8 +187,8 @@ judgings =
     ∷ []
 
 pub judged-examples : map (λ (c : Judging). judgeOf (c .sheet) (c .log) (c .number) (c .positions) (c .filled)) judgings ≡ map (λ (c : Judging). c .judged) judgings
-unfolding set-of lower-half upper-half complement judgeOf refusalOf antiscenario flat chosen choose count total choices denials denying-rows denying-free end far-end closure brings elem decode
-    points matching all is-line meets env lookup clear below between inSet hasAt tick sure nearAt
+unfolding set-of lower-half upper-half complement judgeOf refusalOf antiscenario flat chosen choose count total choices denials denying-rows denying-free end gather ascends leads may-end first-or points far-end closure brings elem decode
+    matching all is-line meets env lookup clear below between inSet hasAt tick sure nearAt
     sheetText headText rowsText rowText spell left leftByte lastByte fieldAt numeral scan
     answer taken closing headOf rowsFrom rowBytes after sheetOf section sections rowIn
     lineOf refusal sectionFits refusalWithin originFits kindFits pFits isDue ordinary known qFits knownBut ordinaryBut bothOrdinary restFits setOnly bothZero roomFits enter advance

@@ -10,7 +10,7 @@ use lib.Dec.{eqb, ltb}
 use Rattle.columns.specs.Number.{largest}
 use Rattle.columns.specs.Spell.{fitsIn}
 use Rattle.columns.proofs.Fits.{parts-fit}
-use Rattle.scenario.specs.Rows.{Row, point, next, last, earlier, later, before, apart, same, free, within, outside, event, upper-half, denying-rows, denying-free, End, start, close, inner, end, far-end, complement}
+use Rattle.scenario.specs.Rows.{Row, point, next, last, earlier, later, before, apart, same, free, within, outside, event, upper-half, denying-rows, denying-free, End, start, close, inner, end, complement}
 use Rattle.scenario.specs.Fields.{Fields, fields, written}
 use Rattle.scenario.specs.Reading.{All, IsEvents}
 use Rattle.scenario.proofs.Base.{all-append}
@@ -22,7 +22,9 @@ use Rattle.sheet.specs.declared.Answer.{Answer}
 use Rattle.sheet.specs.Held.{sheetAt, SheetLoaded}
 use Rattle.sheet.specs.Count.{weighLine, product}
 use Rattle.sheet.specs.Text.{Fits, numbersOf}
-use Rattle.denial.specs.Build.{lineFrom, own, denied, denialFrom, chosenFrom, ofSection, built, farOf}
+use Rattle.denial.specs.Build.{lineFrom, own, denied, denialFrom, chosenFrom, ofSection, built}
+use Rattle.order.specs.Ending.{farIn}
+use Rattle.order.proofs.Ending.{far-small}
 use Rattle.introduction.specs.Bringing.{uses, marked, wanted, brought}
 use Rattle.denial.proofs.Choice.{Fair}
 use Rattle.antiscenario.proofs.Accept.{at-line, all-fair, all-six, built-written}
@@ -80,21 +82,6 @@ module _ (s z r : ℕ) (hs : s < 1000) (hz : z < 1000) (hr : r < 1000) where
   deny-fits (event p a) F =
       ((record { section = hs; kind = omega arith; p = F .0; q = omega arith; a = lower-half-fits (complement a); b = upper-half-fits (complement a) (complement-events a) }, tt), tt)
 
-far-small : (r : Row) → far-end [] [] r < 1000
-unfolding far-end
-far-small (point p s) = omega arith
-far-small (next p q s) = omega arith
-far-small (last p q s) = omega arith
-far-small (earlier p q a) = omega arith
-far-small (later p q a) = omega arith
-far-small (before p q) = omega arith
-far-small (apart p q) = omega arith
-far-small (same p q) = omega arith
-far-small (free p q s) = omega arith
-far-small (within p q lo hi) = omega arith
-far-small (outside p q lo hi) = omega arith
-far-small (event p s) = omega arith
-
 all-getD : {A : Type 0} (P : A → Type 0) (d : A) (l : List A) → All P l → P d → (j : ℕ) → P (getD l j d)
 all-getD P d [] a p j = p
 all-getD P d (x ∷ l) a p zero = a .0
@@ -104,12 +91,12 @@ all-lines : (s : ℕ) (d : List Row) → All (λ (x : Row). Fits (lineFrom s x))
 all-lines s [] A = tt
 all-lines s (x ∷ d) A = (A .0, all-lines s d (A .1))
 
-own-fits : (l : Line) (v : ℕ) → Fits l → Fair l → l .section ≤ 6 → All Fits (own (farOf l) l v)
+own-fits : (far : ℕ) (l : Line) (v : ℕ) → far < 1000 → Fits l → Fair l → l .section ≤ 6 → All Fits (own far l v)
 unfolding own
-own-fits l v F G h =
-    all-lines (l .section) (getD (denying-rows (far-end [] [] (rowIn l)) (10 * l .section + 9) (rowIn l)) v [])
-    (all-getD (All (λ (x : Row). Fits (lineFrom (l .section) x))) [] (denying-rows (far-end [] [] (rowIn l)) (10 * l .section + 9) (rowIn l))
-    (deny-fits (l .section) (far-end [] [] (rowIn l)) (10 * l .section + 9) (omega arith) (far-small (rowIn l)) (omega arith) (rowIn l)
+own-fits far l v z F G h =
+    all-lines (l .section) (getD (denying-rows far (10 * l .section + 9) (rowIn l)) v [])
+    (all-getD (All (λ (x : Row). Fits (lineFrom (l .section) x))) [] (denying-rows far (10 * l .section + 9) (rowIn l))
+    (deny-fits (l .section) far (10 * l .section + 9) (omega arith) z (omega arith) (rowIn l)
     (subst FitsF (sym (G .numbers)) (F .p, F .q, F .a, F .b))) tt v)
 
 -- All that is built fits
@@ -128,18 +115,18 @@ module _ (m : List ℕ) (n : ℕ) (plain : (i : ℕ) → i < n → Plain (lineIn
       go true f = all-append Fits (brought m s (marked marks (uses (lineIn m i))) i) (lineIn m i ∷ []) (f (marked marks (uses (lineIn m i)))) (plain i (omega arith) .fits, tt)
       go false f = f marks
 
-  denied-fits : (i v : ℕ) → i < n → All Fits (denied m i v)
+  denied-fits : (i v : ℕ) → i < n → All Fits (denied m n i v)
   unfolding denied
   denied-fits i v h =
-      all-append Fits (brought m (lineIn m i .section) (marked (replicate 100 0) (uses (lineIn m i))) i) (own (farOf (lineIn m i)) (lineIn m i) v)
-      (brought-fits (lineIn m i .section) i (marked (replicate 100 0) (uses (lineIn m i))) (omega arith)) (own-fits (lineIn m i) v (plain i h .fits) (plain i h .fair) (plain i h .section))
+      all-append Fits (brought m (lineIn m i .section) (marked (replicate 100 0) (uses (lineIn m i))) i) (own (farIn m n (lineIn m i)) (lineIn m i) v)
+      (brought-fits (lineIn m i .section) i (marked (replicate 100 0) (uses (lineIn m i))) (omega arith)) (own-fits (farIn m n (lineIn m i)) (lineIn m i) v (far-small m n (lineIn m i)) (plain i h .fits) (plain i h .fair) (plain i h .section))
 
-  denial-fits : (s left i j : ℕ) → i + left ≤ n → All Fits (denialFrom m s i left j)
+  denial-fits : (s left i j : ℕ) → i + left ≤ n → All Fits (denialFrom m n s i left j)
   unfolding denialFrom
   denial-fits s zero i j h = tt
   denial-fits s (suc left) i j h = go (ltb j (weighLine s (lineIn m i))) (denial-fits s left (suc i) (j - weighLine s (lineIn m i)) (omega arith))
     where
-      go : (b : Bool) → All Fits (denialFrom m s (suc i) left (j - weighLine s (lineIn m i))) → All Fits (cond b (denied m i j) (denialFrom m s (suc i) left (j - weighLine s (lineIn m i))))
+      go : (b : Bool) → All Fits (denialFrom m n s (suc i) left (j - weighLine s (lineIn m i))) → All Fits (cond b (denied m n i j) (denialFrom m n s (suc i) left (j - weighLine s (lineIn m i))))
       go true f = denied-fits i j (omega arith)
       go false f = f
 
@@ -147,7 +134,7 @@ module _ (m : List ℕ) (n : ℕ) (plain : (i : ℕ) → i < n → Plain (lineIn
   unfolding chosenFrom
   chosen-fits zero s j = tt
   chosen-fits (suc left) s j =
-      all-append Fits (denialFrom m s 0 n (j / product (suc s) left (linesIn m 0 n))) (chosenFrom m n (suc s) left (j % product (suc s) left (linesIn m 0 n)))
+      all-append Fits (denialFrom m n s 0 n (j / product (suc s) left (linesIn m 0 n))) (chosenFrom m n (suc s) left (j % product (suc s) left (linesIn m 0 n)))
       (denial-fits s n 0 (j / product (suc s) left (linesIn m 0 n)) (omega arith)) (chosen-fits left (suc s) (j % product (suc s) left (linesIn m 0 n)))
 
   section-fits : (s left i : ℕ) → i + left ≤ n → All Fits (ofSection s (linesIn m i left))

@@ -16,8 +16,9 @@ use Rattle.row.specs.declared.Line.{Line}
 use Rattle.row.specs.Row.{rowIn}
 use Rattle.row.specs.Memory.{put, lay, lineIn, linesIn}
 use Rattle.sheet.specs.Count.{weight, weighLine, weighed, product}
+use Rattle.order.specs.Ending.{farIn}
 use Rattle.introduction.specs.Bringing.{NoneBefore, uses, marked, brought}
-use Rattle.denial.specs.Build.{lineFrom, own, denied, denialFrom, chosenFrom, ofSection, built, farOf}
+use Rattle.denial.specs.Build.{lineFrom, own, denied, denialFrom, chosenFrom, ofSection, built}
 use Rattle.row.proofs.Memory.{lay-append}
 use Rattle.introduction.proofs.Bringing.{brought-short}
 
@@ -65,24 +66,24 @@ own-short far l v =
     let h : length d ≤ 3 = all-getD Short [] (denying-rows far (10 * l .section + 9) (rowIn l)) (row-own far (10 * l .section + 9) (rowIn l)) (omega arith) v in
     omega (arith, h, length-map d (lineFrom (l .section)))
 
-pub denied-short : (m : List ℕ) (i v : ℕ) → length (denied m i v) ≤ i + 3
+pub denied-short : (m : List ℕ) (n i v : ℕ) → length (denied m n i v) ≤ i + 3
 unfolding denied
-denied-short m i v =
+denied-short m n i v =
     omega (
       arith,
-      length-append (brought m (lineIn m i .section) (marked (replicate 100 0) (uses (lineIn m i))) i) (own (farOf (lineIn m i)) (lineIn m i) v),
+      length-append (brought m (lineIn m i .section) (marked (replicate 100 0) (uses (lineIn m i))) i) (own (farIn m n (lineIn m i)) (lineIn m i) v),
       brought-short m (lineIn m i .section) i (marked (replicate 100 0) (uses (lineIn m i))),
-      own-short (farOf (lineIn m i)) (lineIn m i) v,
+      own-short (farIn m n (lineIn m i)) (lineIn m i) v,
     )
 
-pub denial-short : (m : List ℕ) (s left i j : ℕ) → length (denialFrom m s i left j) ≤ i + left + 3
+pub denial-short : (m : List ℕ) (n s left i j : ℕ) → length (denialFrom m n s i left j) ≤ i + left + 3
 unfolding denialFrom
-denial-short m s zero i j = omega arith
-denial-short m s (suc left) i j = go (ltb j (weighLine s (lineIn m i))) (denial-short m s left (suc i) (j - weighLine s (lineIn m i)))
+denial-short m n s zero i j = omega arith
+denial-short m n s (suc left) i j = go (ltb j (weighLine s (lineIn m i))) (denial-short m n s left (suc i) (j - weighLine s (lineIn m i)))
   where
-    go : (b : Bool) → length (denialFrom m s (suc i) left (j - weighLine s (lineIn m i))) ≤ suc i + left + 3
-        → length (cond b (denied m i j) (denialFrom m s (suc i) left (j - weighLine s (lineIn m i)))) ≤ i + suc left + 3
-    go true h = omega (arith, denied-short m i j)
+    go : (b : Bool) → length (denialFrom m n s (suc i) left (j - weighLine s (lineIn m i))) ≤ suc i + left + 3
+        → length (cond b (denied m n i j) (denialFrom m n s (suc i) left (j - weighLine s (lineIn m i)))) ≤ i + suc left + 3
+    go true h = omega (arith, denied-short m n i j)
     go false h = omega (arith, h)
 
 -- A row that counts for a section is of it
@@ -99,15 +100,15 @@ counts-own s v l h = subst (λ (x : ℕ). v < weighLine x l) (sym (counts s v l 
 
 -- The loop over a section's rows
 module _ (m : List ℕ) (s i n j : ℕ) where
-  pub section-hit : i < n → j < weighLine s (lineIn m i) → denied m i j ≡ denialFrom m s i (n - i) j
+  pub section-hit : i < n → j < weighLine s (lineIn m i) → denied m n i j ≡ denialFrom m n s i (n - i) j
   unfolding denialFrom
   section-hit h w = let e : n - i ≡ suc (n - (i + 1)) = omega arith in rw e (simp (lt-ltb j (weighLine s (lineIn m i)) w))
 
-  pub section-on : i < n → weighLine s (lineIn m i) ≤ j → denialFrom m s (i + 1) (n - (i + 1)) (j - weighLine s (lineIn m i)) ≡ denialFrom m s i (n - i) j
+  pub section-on : i < n → weighLine s (lineIn m i) ≤ j → denialFrom m n s (i + 1) (n - (i + 1)) (j - weighLine s (lineIn m i)) ≡ denialFrom m n s i (n - i) j
   unfolding denialFrom
   section-on h w = let e : n - i ≡ suc (n - (i + 1)) = omega arith in rw (e, add-one i) (simp (le-ltb j (weighLine s (lineIn m i)) w))
 
-  pub section-end : n ≤ i → denialFrom m s i (n - i) j ≡ []
+  pub section-end : n ≤ i → denialFrom m n s i (n - i) j ≡ []
   unfolding denialFrom
   section-end h = let e : n - i ≡ 0 = omega arith in rw e
 
@@ -116,13 +117,13 @@ weighs-nothing : (s : ℕ) (l : Line) → (l .section ≡ s → ⊥) → weighLi
 unfolding weighLine
 weighs-nothing s l e = simp (ne-eqb (l .section) s e)
 
-pub section-from : (m : List ℕ) (s from n j : ℕ) → NoneBefore m s from → from ≤ n → denialFrom m s from (n - from) j ≡ denialFrom m s 0 n j
+pub section-from : (m : List ℕ) (s from n j : ℕ) → NoneBefore m s from → from ≤ n → denialFrom m n s from (n - from) j ≡ denialFrom m n s 0 n j
 section-from m s zero n j f h = rw sub-zero
 section-from m s (suc i) n j f h =
     let w = weighs-nothing s (lineIn m i) (f i (omega arith)) in
     let one : suc i ≡ i + 1 = omega arith in
     let same : j ≡ j - weighLine s (lineIn m i) = omega (arith, w) in
-    rw one (ap (denialFrom m s (i + 1) (n - (i + 1))) same ∙ section-on m s i n j (omega arith) (omega (arith, w)) ∙ section-from m s i n j (λ k l. f k (omega arith)) (omega arith))
+    rw one (ap (denialFrom m n s (i + 1) (n - (i + 1))) same ∙ section-on m s i n j (omega arith) (omega (arith, w)) ∙ section-from m s i n j (λ k l. f k (omega arith)) (omega arith))
 
 -- what is there is the whole, or nothing is left
 module _ (at : ℕ) (out : List ℕ) (xs ys : List Line) (e : xs ≡ ys) where
@@ -204,16 +205,16 @@ module _ (m : List ℕ) (n s k : ℕ) (h : s < k) where
     pub total-low : 1 ≤ t / w
     total-low = subst (λ (x : ℕ). 1 ≤ x) (sym total-step) (factor' (weighed (s + 1) ls) after much)
 
-  chosen-is : (j : ℕ) → chosenFrom m n (s + 1) (k - s) j ≡ denialFrom m (s + 1) 0 n (j / after) ++ chosenFrom m n (s + 1 + 1) (k - (s + 1)) (j % after)
+  chosen-is : (j : ℕ) → chosenFrom m n (s + 1) (k - s) j ≡ denialFrom m n (s + 1) 0 n (j / after) ++ chosenFrom m n (s + 1 + 1) (k - (s + 1)) (j % after)
   unfolding chosenFrom
   chosen-is j = let e : k - s ≡ suc (k - (s + 1)) = omega arith in rw (e, add-one (s + 1))
 
-  pub section-done : (j t at at' : ℕ) (out out' : List ℕ) → t ≡ after → at' ≡ at + length (denialFrom m (s + 1) 0 n (j / t)) → out' ≡ lay at (denialFrom m (s + 1) 0 n (j / t)) out
+  pub section-done : (j t at at' : ℕ) (out out' : List ℕ) → t ≡ after → at' ≡ at + length (denialFrom m n (s + 1) 0 n (j / t)) → out' ≡ lay at (denialFrom m n (s + 1) 0 n (j / t)) out
       → (lay at' (chosenFrom m n (s + 1 + 1) (k - (s + 1)) (j % t)) out' ≡ lay at (chosenFrom m n (s + 1) (k - s) j) out)
       × (at' + length (chosenFrom m n (s + 1 + 1) (k - (s + 1)) (j % t)) ≡ at + length (chosenFrom m n (s + 1) (k - s) j))
   section-done j t at at' out out' e a o = (
-    rw (chosen-is j, a, o, e) (sym (lay-append (denialFrom m (s + 1) 0 n (j / after)) (chosenFrom m n (s + 1 + 1) (k - (s + 1)) (j % after)) at out)),
-    rw (chosen-is j, a, e) (omega (arith, length-append (denialFrom m (s + 1) 0 n (j / after)) (chosenFrom m n (s + 1 + 1) (k - (s + 1)) (j % after)))),
+    rw (chosen-is j, a, o, e) (sym (lay-append (denialFrom m n (s + 1) 0 n (j / after)) (chosenFrom m n (s + 1 + 1) (k - (s + 1)) (j % after)) at out)),
+    rw (chosen-is j, a, e) (omega (arith, length-append (denialFrom m n (s + 1) 0 n (j / after)) (chosenFrom m n (s + 1 + 1) (k - (s + 1)) (j % after)))),
   )
 
 pub sections-end : (m : List ℕ) (n s k j : ℕ) → k ≤ s → chosenFrom m n (s + 1) (k - s) j ≡ []
@@ -238,22 +239,22 @@ pub same-rows-from : (at : ℕ) (out out' : List ℕ) (xs ys : List Line) → xs
 same-rows-from at out out' xs ys e z r o a b = (a ∙ ap (λ (l : List Line). at + length l) e, b ∙ ap₂ (λ (l : List Line) (x : List ℕ). lay at l x) e z)
 
 -- denial v of row i
-module _ (m : List ℕ) (i v : ℕ) (line : Line) (l : line ≡ lineIn m i) where
+module _ (m : List ℕ) (n i v : ℕ) (line : Line) (l : line ≡ lineIn m i) where
   pub row-counts : v < weighLine (lineIn m i .section) (lineIn m i) → v < weight (line .kind) (line .p) (line .q)
   row-counts h = subst (λ (x : Line). v < weight (x .kind) (x .p) (x .q)) (sym l) (counts (lineIn m i .section) v (lineIn m i) h .1)
 
   pub row-section : lineIn m i .section ≤ 100 → line .section ≤ 100
   row-section h = subst (λ (x : Line). x .section ≤ 100) (sym l) h
 
-  pub row-done : (far : ℕ) → far ≡ farOf line → (at end r : ℕ) (marks out out' o : List ℕ) → marks ≡ marked (replicate 100 0) (uses line) → end ≡ at + length (brought m (line .section) marks i)
+  pub row-done : (far : ℕ) → far ≡ farIn m n line → (at end r : ℕ) (marks out out' o : List ℕ) → marks ≡ marked (replicate 100 0) (uses line) → end ≡ at + length (brought m (line .section) marks i)
       → out' ≡ lay at (brought m (line .section) marks i) out → r ≡ end + length (own far line v) → o ≡ lay end (own far line v) out'
-      → (r ≡ at + length (denied m i v)) × (o ≡ lay at (denied m i v) out)
+      → (r ≡ at + length (denied m n i v)) × (o ≡ lay at (denied m n i v) out)
   unfolding denied
   row-done far d at end r marks out out' o k e a f b =
       let bs = brought m (lineIn m i .section) (marked (replicate 100 0) (uses (lineIn m i))) i in
       let same : brought m (line .section) marks i ≡ bs = rw (k, l) in
-      let own-is : own far line v ≡ own (farOf (lineIn m i)) (lineIn m i) v = rw (d, l) in
+      let own-is : own far line v ≡ own (farIn m n (lineIn m i)) (lineIn m i) v = rw (d, l) in
       let e' : end ≡ at + length bs = e ∙ ap (λ (x : List Line). at + length x) same in (
-        omega (arith, f, e', ap length own-is, length-append bs (own (farOf (lineIn m i)) (lineIn m i) v)),
-        b ∙ ap (λ (x : List Line). lay end x out') own-is ∙ rw (e', a, same) (sym (lay-append bs (own (farOf (lineIn m i)) (lineIn m i) v) at out)),
+        omega (arith, f, e', ap length own-is, length-append bs (own (farIn m n (lineIn m i)) (lineIn m i) v)),
+        b ∙ ap (λ (x : List Line). lay end x out') own-is ∙ rw (e', a, same) (sym (lay-append bs (own (farIn m n (lineIn m i)) (lineIn m i) v) at out)),
       )

@@ -10,9 +10,11 @@ use lib.ListN.{length, getD, set, length-set, length-map, replicate, length-repl
 use lib.Seq.{getD-set-same, getD-set-other}
 use lib.Dec.{eqb, leb, ltb}
 use borrow.Author.Tests.{le-ltb, eqb-true, eqb-false, ltb-true, ltb-false}
-use Rattle.scenario.specs.Rows.{Row, point, next, last, earlier, later, before, apart, same, free, within, outside, event, introduced, needs, brings, elem, closure, denying-rows, denials, far-end}
+use Rattle.scenario.specs.Rows.{Row, point, next, last, earlier, later, before, apart, same, free, within, outside, event, introduced, needs, brings, elem, closure, points, denying-rows, denials, far-end}
 use Rattle.scenario.specs.Fields.{fields, five, decode, rowOf, Tagged, tagged, written}
 use Rattle.scenario.specs.Sheet.{choices, total, choose, chosen}
+use Rattle.scenario.specs.Reading.{All, RowsRead, SectionsRead, SheetRead}
+use Rattle.scenario.proofs.Base.{Order, lower, level, upper, order}
 use Rattle.row.specs.declared.Line.{Line}
 use Rattle.row.specs.Row.{six, rowIn}
 use Rattle.sheet.specs.Reading.{section, sections, sheetOf}
@@ -23,6 +25,8 @@ use Rattle.sheet.proofs.Denials.{line-weight, choices-product}
 use Rattle.sheet.specs.Text.{numbersOf}
 use Rattle.denial.specs.Build.{lineFrom, own, denied, denialFrom, chosenFrom, ofSection, built}
 use Rattle.introduction.specs.Bringing.{uses, marked, wanted, brought}
+use Rattle.order.specs.Ending.{farIn}
+use Rattle.order.proofs.Places.{Within, rows-within, far-is}
 
 -- What reading gives of a line: its numbers are its row's, its kind is one of the twelve, and a consequent's points are below 100.
 pub record Fair (l : Line) : Type 0 where
@@ -128,20 +132,31 @@ getD-right (x ∷ xs) ys zero d h = absurd (omega arith)
 getD-right (x ∷ xs) ys (suc j) d h =
     let e : suc j - suc (length xs) ≡ j - length xs = omega arith in rw e (getD-right xs ys j d (omega arith))
 
-far-end-same : (antecedent c : List Row) (r : Row) → far-end antecedent c r ≡ far-end [] [] r
-unfolding far-end
-far-end-same antecedent c (point p s) = refl
-far-end-same antecedent c (next p q s) = refl
-far-end-same antecedent c (last p q s) = refl
-far-end-same antecedent c (earlier p q a) = refl
-far-end-same antecedent c (later p q a) = refl
-far-end-same antecedent c (before p q) = refl
-far-end-same antecedent c (apart p q) = refl
-far-end-same antecedent c (same p q) = refl
-far-end-same antecedent c (free p q s) = refl
-far-end-same antecedent c (within p q lo hi) = refl
-far-end-same antecedent c (outside p q lo hi) = refl
-far-end-same antecedent c (event p s) = refl
+-- the row of a line of section s
+row-in : (P : Row → Type 0) (m : List ℕ) (s left i : ℕ) → All P (section s (linesIn m i left)) → (j : ℕ) → i ≤ j → j < i + left → lineIn m j .section ≡ s → P (rowIn (lineIn m j))
+unfolding section linesIn
+row-in P m s zero i A j lo hi y = absurd (omega arith)
+row-in P m s (suc left) i A j lo hi y = go (eqb (lineIn m i .section) s) refl A (order i j) (λ B l. row-in P m s left (suc i) B j l (omega arith) y)
+  where
+    go : (b : Bool) → eqb (lineIn m i .section) s ≡ b → All P (cond b (rowIn (lineIn m i) ∷ section s (linesIn m (suc i) left)) (section s (linesIn m (suc i) left))) → Order i j
+        → (All P (section s (linesIn m (suc i) left)) → suc i ≤ j → P (rowIn (lineIn m j))) → P (rowIn (lineIn m j))
+    go true e A (lower h) r = r (A .1) (omega arith)
+    go true e A (level h) r = subst (λ (x : ℕ). P (rowIn (lineIn m x))) h (A .0)
+    go true e A (upper h) r = absurd (omega arith)
+    go false e A (lower h) r = r A (omega arith)
+    go false e A (level h) r = absurd (eqb-false (lineIn m i .section) s e (ap (λ (x : ℕ). lineIn m x .section) h ∙ y))
+    go false e A (upper h) r = absurd (omega arith)
+
+-- the rows of a section that is read
+section-read : (a : ℕ) (ls : List Line) (left i : ℕ) → SectionsRead a i (sections i left ls) → (s : ℕ) → i ≤ s → s < i + left → RowsRead a s 0 (section s ls)
+unfolding sections
+section-read a ls zero i R s lo hi = absurd (omega arith)
+section-read a ls (suc left) i R s lo hi = go (order i s) (λ l. section-read a ls left (suc i) (R .1) s l (omega arith))
+  where
+    go : Order i s → (suc i ≤ s → RowsRead a s 0 (section s ls)) → RowsRead a s 0 (section s ls)
+    go (lower h) r = r (omega arith)
+    go (level h) r = subst (λ (x : ℕ). RowsRead a x 0 (section x ls)) h (R .0)
+    go (upper h) r = absurd (omega arith)
 
 -- the rows of section s among the first i, the last first
 unfoldable past : (m : List ℕ) (s i : ℕ) → List Row
@@ -177,9 +192,9 @@ module _ (m : List ℕ) (n : ℕ) (fair : (i : ℕ) → i < n → Fair (lineIn m
             is-line false r g h = g
 
     -- the denials of the section, from row i on
-    module _ (z : Row → ℕ) (same-far : (r : Row) → z r ≡ far-end [] [] r) where
+    module _ (z : Row → ℕ) (is-far : (i : ℕ) → i < n → lineIn m i .section ≡ s → farIn m n (lineIn m i) ≡ z (rowIn (lineIn m i))) where
       denied-is : (i j : ℕ) → i < n → lineIn m i .section ≡ s → j < length (denying-rows (z (rowIn (lineIn m i))) (10 * s + 9) (rowIn (lineIn m i)))
-          → denied m i j ≡ map (lineFrom s) (closure (past m s i) (needs (rowIn (lineIn m i))) ++ getD (denying-rows (z (rowIn (lineIn m i))) (10 * s + 9) (rowIn (lineIn m i))) j [])
+          → denied m n i j ≡ map (lineFrom s) (closure (past m s i) (needs (rowIn (lineIn m i))) ++ getD (denying-rows (z (rowIn (lineIn m i))) (10 * s + 9) (rowIn (lineIn m i))) j [])
       unfolding denied own
       denied-is i j h y w =
           let x = lineIn m i in
@@ -188,9 +203,8 @@ module _ (m : List ℕ) (n : ℕ) (fair : (i : ℕ) → i < n → Fair (lineIn m
           subst (λ (v : List ℕ). Marks (marked (replicate 100 0) (uses x)) v) (append-nil (uses x) ∙ uses-is x F) (marks-all (uses x) (replicate 100 0) [] marks-none) in
           let a : brought m (x .section) (marked (replicate 100 0) (uses x)) i ≡ map (lineFrom s) (closure (past m s i) (needs (rowIn x))) =
           ap (λ (v : ℕ). brought m v (marked (replicate 100 0) (uses x)) i) y ∙ brought-is i (omega arith) (marked (replicate 100 0) (uses x)) (needs (rowIn x)) M in
-          let b : map (lineFrom (x .section)) (getD (denying-rows (far-end [] [] (rowIn x)) (10 * x .section + 9) (rowIn x)) j []) ≡ map (lineFrom s) (getD (denying-rows (z (rowIn x)) (10 * s + 9) (rowIn x)) j []) =
-          ap (λ (v : ℕ). map (lineFrom v) (getD (denying-rows (far-end [] [] (rowIn x)) (10 * v + 9) (rowIn x)) j [])) y
-          ∙ ap (λ (v : ℕ). map (lineFrom s) (getD (denying-rows v (10 * s + 9) (rowIn x)) j [])) (sym (same-far (rowIn x))) in
+          let b : map (lineFrom (x .section)) (getD (denying-rows (farIn m n x) (10 * x .section + 9) (rowIn x)) j []) ≡ map (lineFrom s) (getD (denying-rows (z (rowIn x)) (10 * s + 9) (rowIn x)) j []) =
+          ap₂ (λ (v f : ℕ). map (lineFrom v) (getD (denying-rows f (10 * v + 9) (rowIn x)) j [])) y (is-far i h y) in
           ap₂ (λ (u v : List Line). u ++ v) a b ∙ sym (map-append (lineFrom s) (closure (past m s i) (needs (rowIn x))) (getD (denying-rows (z (rowIn x)) (10 * s + 9) (rowIn x)) j []))
 
       -- denial j of a row's and those of the rows after it
@@ -210,14 +224,14 @@ module _ (m : List ℕ) (n : ℕ) (fair : (i : ℕ) → i < n → Fair (lineIn m
           let e = length-map D f in
           getD-right (map f D) ys j [] (subst (λ (v : ℕ). v ≤ j) (sym e) h) ∙ ap (λ (v : ℕ). getD ys (j - v) []) e
 
-      denial-is : (left i j : ℕ) → i + left ≤ n → denialFrom m s i left j ≡ map (lineFrom s) (getD (denials z (10 * s + 9) (past m s i) (section s (linesIn m i left))) j [])
+      denial-is : (left i j : ℕ) → i + left ≤ n → denialFrom m n s i left j ≡ map (lineFrom s) (getD (denials z (10 * s + 9) (past m s i) (section s (linesIn m i left))) j [])
       unfolding denialFrom denials section linesIn past weighLine
       denial-is zero i j h = refl
       denial-is (suc left) i j h = go (eqb (lineIn m i .section) s) refl (λ j. denial-is left (suc i) j (omega arith))
         where
           go : (b : Bool) → eqb (lineIn m i .section) s ≡ b
-              → ((j : ℕ) → denialFrom m s (suc i) left j ≡ map (lineFrom s) (getD (denials z (10 * s + 9) (cond (eqb (lineIn m i .section) s) (rowIn (lineIn m i) ∷ past m s i) (past m s i)) (section s (linesIn m (suc i) left))) j []))
-              → cond (ltb j (cond b (weight (lineIn m i .kind) (lineIn m i .p) (lineIn m i .q)) 0)) (denied m i j) (denialFrom m s (suc i) left (j - cond b (weight (lineIn m i .kind) (lineIn m i .p) (lineIn m i .q)) 0))
+              → ((j : ℕ) → denialFrom m n s (suc i) left j ≡ map (lineFrom s) (getD (denials z (10 * s + 9) (cond (eqb (lineIn m i .section) s) (rowIn (lineIn m i) ∷ past m s i) (past m s i)) (section s (linesIn m (suc i) left))) j []))
+              → cond (ltb j (cond b (weight (lineIn m i .kind) (lineIn m i .p) (lineIn m i .q)) 0)) (denied m n i j) (denialFrom m n s (suc i) left (j - cond b (weight (lineIn m i .kind) (lineIn m i .p) (lineIn m i .q)) 0))
               ≡ map (lineFrom s) (getD (denials z (10 * s + 9) (past m s i) (cond b (rowIn (lineIn m i) ∷ section s (linesIn m (suc i) left)) (section s (linesIn m (suc i) left)))) j [])
           go false e f = rw (le-ltb j 0 (omega arith), sub-zero) (f j ∙ rw e)
           go true e f =
@@ -227,7 +241,7 @@ module _ (m : List ℕ) (n : ℕ) (fair : (i : ℕ) → i < n → Fair (lineIn m
             where
               is-line : (b : Bool) → ltb j (weight (lineIn m i .kind) (lineIn m i .p) (lineIn m i .q)) ≡ b
                   → length (denying-rows (z (rowIn (lineIn m i))) (10 * s + 9) (rowIn (lineIn m i))) ≡ weight (lineIn m i .kind) (lineIn m i .p) (lineIn m i .q)
-                  → cond b (denied m i j) (denialFrom m s (suc i) left (j - weight (lineIn m i .kind) (lineIn m i .p) (lineIn m i .q)))
+                  → cond b (denied m n i j) (denialFrom m n s (suc i) left (j - weight (lineIn m i .kind) (lineIn m i .p) (lineIn m i .q)))
                   ≡ map (lineFrom s) (getD (denials z (10 * s + 9) (past m s i) (rowIn (lineIn m i) ∷ section s (linesIn m (suc i) left))) j [])
               is-line true t w =
                   let h' = subst (λ (v : ℕ). j < v) (sym w) (ltb-true j (weight (lineIn m i .kind) (lineIn m i .p) (lineIn m i .q)) t) in
@@ -238,26 +252,9 @@ module _ (m : List ℕ) (n : ℕ) (fair : (i : ℕ) → i < n → Fair (lineIn m
                   f (j - weight (lineIn m i .kind) (lineIn m i .p) (lineIn m i .q)) ∙ rw (e, sym w) (ap (map (lineFrom s))
                   (sym (step-on (past m s i) (rowIn (lineIn m i)) (denials z (10 * s + 9) (rowIn (lineIn m i) ∷ past m s i) (section s (linesIn m (suc i) left))) j h')))
 
-  front : (s : ℕ) (h : 1 ≤ s) (z : Row → ℕ) → ((r : Row) → z r ≡ far-end [] [] r) → (j : ℕ) → denialFrom m s 0 n j ≡ map (λ (r : Row). numbersOf (record { section = s; row = r })) (getD (denials z (10 * s + 9) [] (section s (linesIn m 0 n))) j [])
+  front : (s : ℕ) (h : 1 ≤ s) (z : Row → ℕ) → ((i : ℕ) → i < n → lineIn m i .section ≡ s → farIn m n (lineIn m i) ≡ z (rowIn (lineIn m i))) → (j : ℕ) → denialFrom m n s 0 n j ≡ map (λ (r : Row). numbersOf (record { section = s; row = r })) (getD (denials z (10 * s + 9) [] (section s (linesIn m 0 n))) j [])
   unfolding past lineFrom
   front s h z e j = denial-is s h z e n 0 j (omega arith)
-
-  -- one denial of each section
-  chosen-is : (antecedent : List Row) (left s j : ℕ) → 1 ≤ s → chosenFrom m n s left j ≡ map numbersOf (tagged s (choose [] (choices antecedent s (sections s left (linesIn m 0 n))) j))
-  unfolding chosenFrom tagged choose choices sections
-  chosen-is antecedent zero s j h = refl
-  chosen-is antecedent (suc left) s j h =
-      let ls = linesIn m 0 n in
-      let T = total (choices antecedent (suc s) (sections (suc s) left ls)) in
-      let t : product (suc s) left ls ≡ T = sym (choices-product antecedent ls left (suc s)) in
-      let d = getD (denials (far-end antecedent (section s ls)) (10 * s + 9) [] (section s ls)) (j / T) [] in
-      let rest = tagged (suc s) (choose [] (choices antecedent (suc s) (sections (suc s) left ls)) (j % T)) in
-      let tag : Row → Tagged = λ r. record { section = s; row = r } in
-      let a : denialFrom m s 0 n (j / product (suc s) left ls) ≡ map numbersOf (map tag d) =
-      ap (λ (v : ℕ). denialFrom m s 0 n (j / v)) t ∙ front s h (far-end antecedent (section s ls)) (far-end-same antecedent (section s ls)) (j / T) ∙ sym (map-map numbersOf tag d) in
-      let b : chosenFrom m n (suc s) left (j % product (suc s) left ls) ≡ map numbersOf rest =
-      ap (λ (v : ℕ). chosenFrom m n (suc s) left (j % v)) t ∙ chosen-is antecedent left (suc s) (j % T) (omega arith) in
-      ap₂ (λ (u v : List Line). u ++ v) a b ∙ sym (map-append numbersOf (map tag d) rest)
 
   -- the antecedent's rows
   ante-is : (left i : ℕ) → i + left ≤ n → ofSection 0 (linesIn m i left) ≡ map (lineFrom 0) (section 0 (linesIn m i left))
@@ -270,12 +267,41 @@ module _ (m : List ℕ) (n : ℕ) (fair : (i : ℕ) → i < n → Fair (lineIn m
       go true e f = ap₂ (λ (u : Line) (v : List Line). u ∷ v) (sym (line-back (lineIn m i) 0 (fair i (omega arith)) (eqb-true (lineIn m i .section) 0 e))) f
       go false e f = f
 
-  -- THE THEOREM: what is built is the antiscenario
-  pub built-is : (k number : ℕ) → built m n k (number - 1) ≡ map numbersOf (written (sheetOf k (linesIn m 0 n)) number)
-  unfolding built written tagged chosen sheetOf lineFrom
-  built-is k number =
-      let ls = linesIn m 0 n in
-      let tag : Row → Tagged = λ r. record { section = 0; row = r } in
-      let rest = tagged 1 (choose [] (choices (section 0 ls) 1 (sections 1 k ls)) (number - 1)) in
-      ap₂ (λ (u v : List Line). u ++ v) (ante-is n 0 (omega arith) ∙ sym (map-map numbersOf tag (section 0 ls))) (chosen-is (section 0 ls) k 1 (number - 1) (omega arith))
-      ∙ sym (map-append numbersOf (map tag (section 0 ls)) rest)
+  -- of a sheet that is read
+  module _ (k : ℕ) (R : SheetRead (sheetOf k (linesIn m 0 n))) where
+    abbrev antecedent-rows : List Row
+    antecedent-rows = section 0 (linesIn m 0 n)
+
+    sheet-far : (s : ℕ) → 1 ≤ s → s ≤ k → (i : ℕ) → i < n → lineIn m i .section ≡ s → farIn m n (lineIn m i) ≡ far-end antecedent-rows (section s (linesIn m 0 n)) (rowIn (lineIn m i))
+    unfolding sheetOf
+    sheet-far s h u i b y =
+        let W = rows-within (length (points antecedent-rows)) s 0 (section s (linesIn m 0 n)) (omega arith) (section-read (length (points antecedent-rows)) (linesIn m 0 n) k 1 (R .consequents) s h (omega arith)) in
+        far-is m n s h (R .numbers) (R .few) (R .uses) W (lineIn m i) y (row-in (Within (length (points antecedent-rows)) s) m s n 0 W i (omega arith) (omega arith) y)
+
+    -- one denial of each section
+    chosen-is : (left s j : ℕ) → 1 ≤ s → s + left ≤ k + 1
+        → chosenFrom m n s left j ≡ map numbersOf (tagged s (choose [] (choices (far-end antecedent-rows) s (sections s left (linesIn m 0 n))) j))
+    unfolding chosenFrom tagged choose choices sections
+    chosen-is zero s j h u = refl
+    chosen-is (suc left) s j h u =
+        let ls = linesIn m 0 n in
+        let T = total (choices (far-end antecedent-rows) (suc s) (sections (suc s) left ls)) in
+        let t : product (suc s) left ls ≡ T = sym (choices-product (far-end antecedent-rows) ls left (suc s)) in
+        let d = getD (denials (far-end antecedent-rows (section s ls)) (10 * s + 9) [] (section s ls)) (j / T) [] in
+        let rest = tagged (suc s) (choose [] (choices (far-end antecedent-rows) (suc s) (sections (suc s) left ls)) (j % T)) in
+        let tag : Row → Tagged = λ r. record { section = s; row = r } in
+        let a : denialFrom m n s 0 n (j / product (suc s) left ls) ≡ map numbersOf (map tag d) =
+        ap (λ (v : ℕ). denialFrom m n s 0 n (j / v)) t ∙ front s h (far-end antecedent-rows (section s ls)) (sheet-far s h (omega arith)) (j / T) ∙ sym (map-map numbersOf tag d) in
+        let b : chosenFrom m n (suc s) left (j % product (suc s) left ls) ≡ map numbersOf rest =
+        ap (λ (v : ℕ). chosenFrom m n (suc s) left (j % v)) t ∙ chosen-is left (suc s) (j % T) (omega arith) (omega arith) in
+        ap₂ (λ (u v : List Line). u ++ v) a b ∙ sym (map-append numbersOf (map tag d) rest)
+
+    -- THE THEOREM: what is built is the antiscenario
+    pub built-is : (number : ℕ) → built m n k (number - 1) ≡ map numbersOf (written (sheetOf k (linesIn m 0 n)) number)
+    unfolding built written tagged chosen sheetOf lineFrom
+    built-is number =
+        let ls = linesIn m 0 n in
+        let tag : Row → Tagged = λ r. record { section = 0; row = r } in
+        let rest = tagged 1 (choose [] (choices (far-end antecedent-rows) 1 (sections 1 k ls)) (number - 1)) in
+        ap₂ (λ (u v : List Line). u ++ v) (ante-is n 0 (omega arith) ∙ sym (map-map numbersOf tag (section 0 ls))) (chosen-is k 1 (number - 1) (omega arith) (omega arith))
+        ∙ sym (map-append numbersOf (map tag (section 0 ls)) rest)

@@ -8,8 +8,8 @@ use native.Mathlib.Omega.{arith}
 use lib.ListN.{length, getD}
 use lib.Dec.{eqb}
 use borrow.Author.Tests.{eqb-true, eqb-false, eq-eqb, ne-eqb}
-use Rattle.scenario.specs.Rows.{full-half, set-of, lower-half, upper-half, denying-rows, denying-free, end, far-end, complement}
-use Rattle.scenario.specs.Fields.{fields, decode, rowOf}
+use Rattle.scenario.specs.Rows.{full-half, set-of, lower-half, upper-half, denying-rows, denying-free, end, complement}
+use Rattle.scenario.specs.Fields.{fields, decode}
 use Rattle.row.specs.declared.Line.{Line}
 use Rattle.row.specs.Row.{six, rowIn}
 use Rattle.row.specs.Memory.{put, lay}
@@ -18,7 +18,7 @@ use Rattle.sheet.proofs.Count.{weight-6, weight-9, weight-low, weight-high}
 use Rattle.scenario.proofs.Numbers.{any-kind}
 use Rattle.scenario.proofs.Halves.{lower-half-of, upper-half-of}
 use Rattle.sheet.specs.Text.{numbersOf}
-use Rattle.denial.specs.Build.{farOf, own, freeRows, lineFrom, beforeOf, insideOf}
+use Rattle.denial.specs.Build.{own, freeRows, lineFrom, beforeOf, insideOf}
 
 -- one denial has number 0
 only : (v k p q : ℕ) → v < weight k p q → 1 ≡ weight k p q → v ≡ 0
@@ -192,22 +192,3 @@ pub free-own : (far : ℕ) (l : Line) (v at r : ℕ) (out o : List ℕ) → l .a
 free-own far l v at r out o a k h e f =
     let q = own-9 far l v a k (subst (λ (w : ℕ). v < w) (sym (weight-9 (l .kind) (l .p) (l .q) k)) h) in
     (e ∙ ap (λ (ls : List Line). at + length ls) (sym q), f ∙ ap (λ (ls : List Line). lay at ls out) (sym q))
-
--- The far end
-module _ (p q a b : ℕ) where
-  abbrev Near : ℕ → Type 0
-  Near k = (k ≡ 2 → ⊥) → 0 ≡ far-end [] [] (rowOf k p q a b)
-
-  near : (k : ℕ) → Near k
-  unfolding decode far-end
-  near =
-      any-kind Near (λ n. refl) (λ n. refl) (λ n. absurd (n refl)) (λ n. refl) (λ n. refl) (λ n. refl) (λ n. refl) (λ n. refl) (λ n. refl) (λ n. refl) (λ n. refl) (λ n. refl) (λ n. refl)
-      (λ k n. refl)
-
-pub far-next : (l : Line) → l .kind ≡ 2 → 99 ≡ farOf l
-unfolding rowIn decode far-end
-far-next l e = rw e
-
-pub far-other : (l : Line) → (l .kind ≡ 2 → ⊥) → 0 ≡ farOf l
-unfolding rowIn
-far-other l n = near (l .p) (l .q) (l .a) (l .b) (l .kind) n

@@ -5,21 +5,18 @@ use mathlib.Core.List.{List, [], _∷_, _++_, map}
 use Prim.Native.Nat.{ℕ, zero, suc, _+_, _*_, _-_, _/_, _%_}
 use lib.ListN.{getD, replicate}
 use lib.Dec.{ltb, eqb}
-use Rattle.scenario.specs.Rows.{Row, denying-rows, far-end}
+use Rattle.scenario.specs.Rows.{Row, denying-rows}
 use Rattle.row.specs.declared.Line.{Line}
 use Rattle.row.specs.Row.{six, rowIn}
 use Rattle.sheet.specs.Text.{numbersOf}
 use Rattle.sheet.specs.Count.{edge, weighLine, product}
 use Rattle.row.specs.Memory.{lineIn, linesIn}
+use Rattle.order.specs.Ending.{farIn}
 use Rattle.introduction.specs.Bringing.{brought, marked, uses}
 
 -- a row's numbers, with its section
 unfoldable pub lineFrom : ℕ → Row → Line
 lineFrom s r = numbersOf (record { section = s; row = r })
-
--- how far the point of a NEXT or LAST row is missing
-abbrev pub farOf : Line → ℕ
-farOf l = far-end [] [] (rowIn l)
 
 -- the own rows of denial v of a row whose far end is given
 unfoldable pub own : (far : ℕ) → Line → ℕ → List Line
@@ -40,21 +37,21 @@ freeRows s r p q a b v =
     (cond (edge q) (insideOf s r q p ∷ [])
     (cond (eqb v 0) (six s 6 p r 0 0 ∷ six s 6 r q 0 0 ∷ []) (six s 6 q r 0 0 ∷ six s 6 r p 0 0 ∷ [])))
 
--- denial v of row i
-unfoldable pub denied : (m : List ℕ) (i v : ℕ) → List Line
-denied m i v = brought m (lineIn m i .section) (marked (replicate 100 0) (uses (lineIn m i))) i ++ own (farOf (lineIn m i)) (lineIn m i) v
+-- denial v of row i, of n rows
+unfoldable pub denied : (m : List ℕ) (n i v : ℕ) → List Line
+denied m n i v = brought m (lineIn m i .section) (marked (replicate 100 0) (uses (lineIn m i))) i ++ own (farIn m n (lineIn m i)) (lineIn m i) v
 
 -- denial j of section s, from row i on
-unfoldable pub denialFrom : (m : List ℕ) (s i left j : ℕ) → List Line
-denialFrom m s i zero j = []
-denialFrom m s i (suc left) j =
-    cond (ltb j (weighLine s (lineIn m i))) (denied m i j) (denialFrom m s (suc i) left (j - weighLine s (lineIn m i)))
+unfoldable pub denialFrom : (m : List ℕ) (n s i left j : ℕ) → List Line
+denialFrom m n s i zero j = []
+denialFrom m n s i (suc left) j =
+    cond (ltb j (weighLine s (lineIn m i))) (denied m n i j) (denialFrom m n s (suc i) left (j - weighLine s (lineIn m i)))
 
 -- way j of choosing one denial of each of the sections s, s + 1, ..
 unfoldable pub chosenFrom : (m : List ℕ) (n s left j : ℕ) → List Line
 chosenFrom m n s zero j = []
 chosenFrom m n s (suc left) j =
-    denialFrom m s 0 n (j / product (suc s) left (linesIn m 0 n)) ++ chosenFrom m n (suc s) left (j % product (suc s) left (linesIn m 0 n))
+    denialFrom m n s 0 n (j / product (suc s) left (linesIn m 0 n)) ++ chosenFrom m n (suc s) left (j % product (suc s) left (linesIn m 0 n))
 
 -- the lines of section s
 unfoldable pub ofSection : ℕ → List Line → List Line

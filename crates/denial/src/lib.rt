@@ -9,7 +9,7 @@ ghost use Rattle.row.specs.Row.{six};
 ghost use Rattle.row.specs.Memory.{lay, lineIn, linesIn};
 ghost use Rattle.sheet.specs.Count.{weight, weighLine, product};
 ghost use Rattle.introduction.specs.Bringing.{NoneBefore};
-ghost use Rattle.denial.specs.Build.{farOf, own, freeRows, insideOf, beforeOf, denied, denialFrom, ofSection, built};
+ghost use Rattle.denial.specs.Build.{own, freeRows, insideOf, beforeOf, denied, denialFrom, ofSection, built};
 
 // Half of a set, with all its events: both halves are taken from it where EVENT is denied.
 const FULL_HALF: u32 = 4294967295;
@@ -41,16 +41,6 @@ fn inside(section: u32, r: u32, e: u32, p: u32) -> row::Line
         return before(section, r, p);
     }
     before(section, p, r)
-}
-
-// How far the point of a NEXT or LAST row is missing: up to the close, from the start. No other row asks.
-fn far_end(line: row::Line) -> u32
-    ensures { λ r. ⌜ r ≡ farOf line ⌝ }
-{
-    if line.kind == 2 {
-        return row::CLOSE;
-    }
-    0
 }
 
 // The row that denies a row of a kind other than FREE, whose far end is given; v tells BEFORE's two denials apart. Accepted rows have no other kinds.
@@ -131,23 +121,31 @@ fn own_rows(line: row::Line, v: u64, far: u32, out: &mut [u32], at: usize) -> us
 }
 
 // Stores denial v of row number i, from 0: the rows that it brings and its own; gives where they end. Its section begins at row `from` or later.
-fn deny_row(rows: &[u32], from: usize, i: usize, v: u64, out: &mut [u32], at: usize) -> usize
-    requires { ⌜ (6 * i + 6 ≤ length (now rows)) × (i < most-rows) × (at ≤ 1500) × (lineIn (now rows) i .section ≤ 100) × (v < weighLine (lineIn (now rows) i .section) (lineIn (now rows) i)) × NoneBefore (now rows) (lineIn (now rows) i .section) from ⌝ }
-    ensures ends { λ r. ⌜ r ≡ at + length (denied (now (rows .entry)) i v) ⌝ }
-    ensures memory { λ r. ⌜ now (out .exit) ≡ lay at (denied (now (rows .entry)) i v) (now (out .entry)) ⌝ }
+fn deny_row(
+    rows: &[u32],
+    n: usize,
+    from: usize,
+    i: usize,
+    v: u64,
+    out: &mut [u32],
+    at: usize,
+) -> usize
+    requires { ⌜ (6 * n ≤ length (now rows)) × (i < n) × (n ≤ most-rows) × (at ≤ 1500) × (lineIn (now rows) i .section ≤ 100) × (v < weighLine (lineIn (now rows) i .section) (lineIn (now rows) i)) × NoneBefore (now rows) (lineIn (now rows) i .section) from ⌝ }
+    ensures ends { λ r. ⌜ r ≡ at + length (denied (now (rows .entry)) n i v) ⌝ }
+    ensures memory { λ r. ⌜ now (out .exit) ≡ lay at (denied (now (rows .entry)) n i v) (now (out .entry)) ⌝ }
 {
     let line = row::line_at(rows, i);
     let mut marks = [0u32; pattern::POINT_NUMBERS];
     introduction::mark_uses(&mut marks, line);
     let end = introduction::bring(rows, from, i, line.section, &mut marks, out, at);
-    own_rows(line, v, far_end(line), out, end)
+    own_rows(line, v, order::far_end(rows, n, line), out, end)
 }
 
 // Stores denial j of a section's; gives where its rows end.
 fn deny_section(rows: &[u32], n: usize, section: u32, j: u64, out: &mut [u32], at: usize) -> usize
     requires { ⌜ (sheet-room ≤ length (now rows)) × (n ≤ most-rows) × (section ≤ 100) × (at ≤ 1500) ⌝ }
-    ensures ends { λ r. ⌜ r ≡ at + length (denialFrom (now (rows .entry)) section 0 n j) ⌝ }
-    ensures memory { λ r. ⌜ now (out .exit) ≡ lay at (denialFrom (now (rows .entry)) section 0 n j) (now (out .entry)) ⌝ }
+    ensures ends { λ r. ⌜ r ≡ at + length (denialFrom (now (rows .entry)) n section 0 n j) ⌝ }
+    ensures memory { λ r. ⌜ now (out .exit) ≡ lay at (denialFrom (now (rows .entry)) n section 0 n j) (now (out .entry)) ⌝ }
 {
     let from = introduction::first_of(rows, n, section);
     let mut i = from;
@@ -155,7 +153,7 @@ fn deny_section(rows: &[u32], n: usize, section: u32, j: u64, out: &mut [u32], a
     while i < n {
         let w = sheet::weigh_at(rows, i, section);
         if left < w {
-            return deny_row(rows, from, i, left, out, at);
+            return deny_row(rows, n, from, i, left, out, at);
         }
         left -= w;
         i += 1;

@@ -10,6 +10,10 @@ pub const START: u32 = 0;
 
 pub const CLOSE: u32 = 99;
 
+pub const ANTECEDENT_POINTS: u32 = 4;
+
+pub const CONSEQUENT_POINTS: u32 = 8;
+
 // Document 01, "Rows": section, kind, p, q, a, b.
 pub struct Line {
     pub section: u32,

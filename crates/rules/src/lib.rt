@@ -8,10 +8,6 @@ const MOST_ANTECEDENT_ROWS: u32 = 32;
 
 const MOST_CONSEQUENT_ROWS: u32 = 24;
 
-const ANTECEDENT_POINTS: u32 = 4;
-
-const CONSEQUENT_POINTS: u32 = 8;
-
 const WRONG_SECTION: u32 = 5;
 
 const WRONG_KIND: u32 = 6;
@@ -93,8 +89,8 @@ fn p_fits(kind: u32, s: u32, antecedent: u32, own: u32, p: u32) -> bool
     ensures { λ r. ⌜ r ≡ pFits kind s antecedent own p ⌝ }
 {
     match kind {
-        1 => due(0, ANTECEDENT_POINTS, antecedent, p),
-        2..=5 => due(10 * s, CONSEQUENT_POINTS, own, p),
+        1 => due(0, row::ANTECEDENT_POINTS, antecedent, p),
+        2..=5 => due(10 * s, row::CONSEQUENT_POINTS, own, p),
         6..=8 => ordinary_point(s, antecedent, own, p),
         9..=11 => known_point(s, antecedent, own, p),
         12 => ordinary_point(s, antecedent, own, p),

@@ -121,7 +121,7 @@ module _ {A : Type 0} (f : Row → A) (Q : Row → Type 0) (alike : (p s : ℕ) 
       ∙ sym (map-append (map f) (map (λ d. c ++ d) new) (denials far r (row ∷ passed) rows))
 
   choices-alike : (antecedent : List Row) (i : ℕ) (cs : List (List Row)) → All (All Q) cs
-      → map (map (map f)) (choices-before antecedent i cs) ≡ map (map (map f)) (choices antecedent i cs)
+      → map (map (map f)) (choices-before antecedent i cs) ≡ map (map (map f)) (choices (far-end antecedent) i cs)
   unfolding choices-before choices
   choices-alike antecedent i [] h = refl
   choices-alike antecedent i (c ∷ cs) h =
@@ -133,7 +133,7 @@ module _ {A : Type 0} (f : Row → A) (Q : Row → Type 0) (alike : (p s : ℕ) 
     old = choices-before (sheet .antecedent) 1 (sheet .consequents)
 
     abbrev new : List (List (List Row))
-    new = choices (sheet .antecedent) 1 (sheet .consequents)
+    new = choices (far-end (sheet .antecedent)) 1 (sheet .consequents)
 
     sheet-alike : map (map (map f)) old ≡ map (map (map f)) new
     sheet-alike = choices-alike (sheet .antecedent) 1 (sheet .consequents) h

@@ -202,14 +202,14 @@ module _ (base : ℕ → Type 0) (r : ℕ) where
 
 -- For a sheet that is read: the denials that consequent number i + 1 is chosen from.
 pub choices-at : (antecedent : List Row) (i : ℕ) (cs : List (List Row)) (n : ℕ) → n < length cs
-    → getD (choices antecedent i cs) n [] ≡ denials (far-end antecedent (getD cs n [])) (10 * (i + n) + 9) [] (getD cs n [])
+    → getD (choices (far-end antecedent) i cs) n [] ≡ denials (far-end antecedent (getD cs n [])) (10 * (i + n) + 9) [] (getD cs n [])
 unfolding choices
 choices-at antecedent i [] n h = absurd (omega arith)
 choices-at antecedent i (c ∷ cs) zero h = let q : i + 0 ≡ i = omega arith in rw q
 choices-at antecedent i (c ∷ cs) (suc n) h = let q : i + suc n ≡ suc i + n = omega arith in rw q (choices-at antecedent (suc i) cs n (omega arith))
 
 pub sheet-denials-are : (sheet : Sheet) → SheetRead sheet → (i : ℕ) → i < length (sheet .consequents) → (d : List Row)
-    → List·Memᴰ d (getD (choices (sheet .antecedent) 1 (sheet .consequents)) i [])
+    → List·Memᴰ d (getD (choices (far-end (sheet .antecedent)) 1 (sheet .consequents)) i [])
     ↔ Denial (far-end (sheet .antecedent) (getD (sheet .consequents) i [])) (10 * (1 + i) + 9) (getD (sheet .consequents) i []) d
 sheet-denials-are sheet R i h d = rw (choices-at (sheet .antecedent) 1 (sheet .consequents) i h)
     (denials-are (Base sheet) (10 * (1 + i) + 9) (far-end (sheet .antecedent) (getD (sheet .consequents) i [])) (getD (sheet .consequents) i [])

@@ -2,12 +2,13 @@
 -- Assumes nothing.
 use mathlib.Core.Path.{_≡_, refl}
 use mathlib.Core.Bool.{Bool, true, false, _&&_}
-use mathlib.Core.List.{List, [], _∷_, map}
+use mathlib.Core.List.{List, [], _∷_, _++_, map}
 use Prim.Native.Nat.{ℕ}
 use native.Mathlib.Omega.{arith}
-use lib.ListN.{length}
+use lib.ListN.{length, getD}
 use lib.Dec.{eqb}
-use Rattle.scenario.specs.Rows.{Row, Run, point, next, last, earlier, before, same, free, within, event, set-of, lower-half, upper-half, complement, between, below, clear, meets, points, elem, brings, closure, end, denying-free, far-end, denying-rows, denials}
+use Rattle.scenario.specs.Rows.{Row, Run, point, next, last, earlier, before, same, free, within, event, set-of, lower-half, upper-half, complement, between, below, clear, meets, points, elem, brings, closure, end, denying-free, gather, ascends, may-end, first-or, far-end, denying-rows, denials}
+use Rattle.scenario.specs.Links.{leads}
 use Rattle.scenario.specs.Sheet.{Sheet, lookup, env, all, flat, is-line, matching, choices, total, choose, count, chosen, antiscenario, Answer, nothing, found, Demand}
 use Rattle.scenario.specs.Log.{Log, inSet, hasAt, tick, sure, nearAt, runOf}
 use Rattle.scenario.specs.Walk.{placing, lowest-above, highest-below, advance, walk}
@@ -63,6 +64,51 @@ newer-board = record {
 two-by-two : Sheet
 two-by-two = record { antecedent = point 1 8 ∷ point 2 8 ∷ []; consequents = (before 1 2 ∷ []) ∷ (before 2 1 ∷ []) ∷ [] }
 
+-- A8: points 1 to n of the antecedent with further rows, and a consequent. A NEXT row's p is before 2, with and without the antecedent's BEFORE 1 2, and with the
+-- consequent's own order of 1 and 2; LAST the other way round.
+injections : (n : ℕ) (order consequent : List Row) → Sheet
+injections n order consequent = record { antecedent = getD ([] ∷ (point 1 2 ∷ []) ∷ (point 1 2 ∷ point 2 2 ∷ []) ∷ (point 1 2 ∷ point 2 2 ∷ point 3 2 ∷ []) ∷ []) n [] ++ order; consequents = consequent ∷ [] }
+
+next-before : (order : List Row) → Sheet
+next-before order = injections 2 order (next 11 1 2 ∷ before 11 2 ∷ [])
+
+last-after : (order : List Row) → Sheet
+last-after order = injections 2 order (last 11 2 2 ∷ before 1 11 ∷ [])
+
+order-of-consequent : Sheet
+order-of-consequent = injections 2 [] (next 11 1 2 ∷ before 1 11 ∷ before 11 2 ∷ before 1 2 ∷ [])
+
+-- q is 0, q is 99: no order is wanted
+from-start : Sheet
+from-start = injections 1 [] (next 11 0 2 ∷ before 11 1 ∷ [])
+
+to-close : Sheet
+to-close = injections 1 [] (last 11 99 2 ∷ before 1 11 ∷ [])
+
+-- BEFORE rows lead to 1, 2 and 3, of which 3 alone is the antecedent's after 2; of 1 and 3, both after 2, the lowest; to q alone
+third-alone : Sheet
+third-alone = injections 3 (before 2 3 ∷ []) (next 11 2 2 ∷ before 11 1 ∷ before 11 2 ∷ before 11 3 ∷ [])
+
+first-and-third : Sheet
+first-and-third = injections 3 (before 2 3 ∷ before 2 1 ∷ []) (next 11 2 2 ∷ before 11 3 ∷ before 11 1 ∷ [])
+
+to-q : Sheet
+to-q = injections 2 (before 2 1 ∷ []) (next 11 2 2 ∷ before 11 2 ∷ [])
+
+-- in steps, through 12 and through q, in a circle, the rows of both sections in no order
+in-steps : Sheet
+in-steps = injections 3 (before 1 3 ∷ before 2 1 ∷ []) (next 11 2 2 ∷ next 12 2 2 ∷ before 2 3 ∷ before 12 2 ∷ before 11 12 ∷ before 12 11 ∷ [])
+
+-- to 3 by rows of both sections only, from p and from q; q is the consequent's own
+by-both : Sheet
+by-both = injections 3 (before 1 3 ∷ before 2 3 ∷ []) (next 11 1 2 ∷ before 11 2 ∷ [])
+
+by-both-from-q : Sheet
+by-both-from-q = injections 3 (before 1 2 ∷ []) (next 11 1 2 ∷ before 11 3 ∷ before 2 3 ∷ [])
+
+own-q : Sheet
+own-q = injections 2 (before 1 2 ∷ []) (next 11 1 4 ∷ next 12 11 2 ∷ before 11 2 ∷ before 12 2 ∷ [])
+
 -- a log that starts at 0 and closes at a given tick
 log : (close : ℕ) (ticks events : List ℕ) → Log
 log c ts es = record { start = 0; close = c; ticks = ts; events = es }
@@ -108,13 +154,23 @@ run-takes lo hi = record { antecedent = []; consequents = (within 0 99 lo hi ∷
 longest : Log
 longest = log 4294967295 [] []
 
+three-injections : Log
+three-injections = log 3 (1 ∷ 2 ∷ 3 ∷ []) (1 ∷ 1 ∷ 1 ∷ [])
+
 -- What is asked, and the answer as lines of numbers
 
 data Question : Type 0 where
   count-of : Sheet → Question
   rows-of : Sheet → (m : ℕ) → Question
+  last-row-of : Sheet → (m : ℕ) → Question
   search-of : Sheet → (m : ℕ) → Log → Question
   check-of : Sheet → Log → Question
+
+-- of lines, the last
+last-line : List (List ℕ) → List (List ℕ)
+last-line [] = []
+last-line (l ∷ []) = l ∷ []
+last-line (k ∷ l ∷ ls) = last-line (l ∷ ls)
 
 -- section kind p q a b
 row-line : Tagged → List ℕ
@@ -133,6 +189,7 @@ check-lines run sheet (found xs) = (1 ∷ []) ∷ xs ∷ faults run sheet xs (le
 answer : Question → List (List ℕ)
 answer (count-of sheet) = (count sheet ∷ []) ∷ []
 answer (rows-of sheet m) = map row-line (written sheet m)
+answer (last-row-of sheet m) = last-line (map row-line (written sheet m))
 answer (search-of sheet m g) = search-lines (smallest-matching (runOf g) (antiscenario sheet m))
 answer (check-of sheet g) = check-lines (runOf g) sheet (check (runOf g) sheet)
 
@@ -223,6 +280,27 @@ cases =
     ∷ is (check-of newer-board board-kept) ((0 ∷ []) ∷ [])
     ∷ is (check-of newer-board board-broken) ((1 ∷ []) ∷ (3 ∷ []) ∷ (3 ∷ []) ∷ [])
     ∷ is (search-of newer-board 2 board-broken) ((3 ∷ 1 ∷ 2 ∷ []) ∷ [])
+    ∷ is (count-of (next-before (before 1 2 ∷ []))) ((3 ∷ []) ∷ [])
+    ∷ is (rows-of (next-before (before 1 2 ∷ [])) 1)
+    ((0 ∷ 1 ∷ 1 ∷ 0 ∷ 2 ∷ 0 ∷ []) ∷ (0 ∷ 1 ∷ 2 ∷ 0 ∷ 2 ∷ 0 ∷ []) ∷ (0 ∷ 6 ∷ 1 ∷ 2 ∷ 0 ∷ 0 ∷ []) ∷ (1 ∷ 9 ∷ 1 ∷ 2 ∷ 2 ∷ 0 ∷ []) ∷ [])
+    ∷ is (search-of (next-before (before 1 2 ∷ [])) 1 three-injections) ((1 ∷ 2 ∷ []) ∷ [])
+    ∷ is (check-of (next-before (before 1 2 ∷ [])) three-injections) ((1 ∷ []) ∷ (1 ∷ 2 ∷ []) ∷ (5 ∷ []) ∷ [])
+    ∷ is (last-row-of (next-before []) 1) ((1 ∷ 9 ∷ 1 ∷ 99 ∷ 2 ∷ 0 ∷ []) ∷ [])
+    ∷ is (search-of (next-before []) 1 three-injections) ((3 ∷ 1 ∷ []) ∷ [])
+    ∷ is (check-of (next-before []) three-injections) ((1 ∷ []) ∷ (1 ∷ 1 ∷ []) ∷ (4 ∷ []) ∷ [])
+    ∷ is (last-row-of (last-after (before 1 2 ∷ [])) 1) ((1 ∷ 9 ∷ 1 ∷ 2 ∷ 2 ∷ 0 ∷ []) ∷ [])
+    ∷ is (last-row-of (last-after []) 1) ((1 ∷ 9 ∷ 0 ∷ 2 ∷ 2 ∷ 0 ∷ []) ∷ [])
+    ∷ is (last-row-of order-of-consequent 1) ((1 ∷ 9 ∷ 1 ∷ 99 ∷ 2 ∷ 0 ∷ []) ∷ [])
+    ∷ is (last-row-of from-start 1) ((1 ∷ 9 ∷ 0 ∷ 1 ∷ 2 ∷ 0 ∷ []) ∷ [])
+    ∷ is (last-row-of to-close 1) ((1 ∷ 9 ∷ 1 ∷ 99 ∷ 2 ∷ 0 ∷ []) ∷ [])
+    ∷ is (last-row-of third-alone 1) ((1 ∷ 9 ∷ 2 ∷ 3 ∷ 2 ∷ 0 ∷ []) ∷ [])
+    ∷ is (last-row-of first-and-third 1) ((1 ∷ 9 ∷ 2 ∷ 1 ∷ 2 ∷ 0 ∷ []) ∷ [])
+    ∷ is (last-row-of to-q 1) ((1 ∷ 9 ∷ 2 ∷ 99 ∷ 2 ∷ 0 ∷ []) ∷ [])
+    ∷ is (last-row-of in-steps 1) ((1 ∷ 9 ∷ 2 ∷ 3 ∷ 2 ∷ 0 ∷ []) ∷ [])
+    ∷ is (last-row-of by-both 1) ((1 ∷ 9 ∷ 1 ∷ 99 ∷ 2 ∷ 0 ∷ []) ∷ [])
+    ∷ is (last-row-of by-both-from-q 1) ((1 ∷ 9 ∷ 1 ∷ 99 ∷ 2 ∷ 0 ∷ []) ∷ [])
+    ∷ is (rows-of own-q 2)
+    ((0 ∷ 1 ∷ 1 ∷ 0 ∷ 2 ∷ 0 ∷ []) ∷ (0 ∷ 1 ∷ 2 ∷ 0 ∷ 2 ∷ 0 ∷ []) ∷ (0 ∷ 6 ∷ 1 ∷ 2 ∷ 0 ∷ 0 ∷ []) ∷ (1 ∷ 2 ∷ 11 ∷ 1 ∷ 4 ∷ 0 ∷ []) ∷ (1 ∷ 9 ∷ 11 ∷ 99 ∷ 2 ∷ 0 ∷ []) ∷ [])
     ∷ []
 
 same-line : (xs ys : List ℕ) → Bool
@@ -242,8 +320,9 @@ passes c = same-lines (answer (c .question)) (c .expected)
 
 -- Every case of the table is as document 01 says.
 examples : all passes cases ≡ true
-unfolding cases passes same-lines same-line is answer check-lines search-lines row-line S no-rows empty-consequent two-scans four-denials five-denials six two-by-two chained upper-event newer-board
-    log three-lines one-scan one-upper board-kept board-broken no-lines injected soon late-start scans-apart equal-ticks run-takes longest fields tagged written count chosen antiscenario choose flat total choices denials far-end denying-rows denying-free end
+unfolding cases passes same-lines same-line is answer check-lines search-lines row-line S no-rows empty-consequent two-scans four-denials five-denials six two-by-two chained upper-event newer-board injections next-before last-after
+    order-of-consequent from-start to-close third-alone first-and-third to-q in-steps by-both by-both-from-q own-q three-injections last-line
+    log three-lines one-scan one-upper board-kept board-broken no-lines injected soon late-start scans-apart equal-ticks run-takes longest fields tagged written count chosen antiscenario choose flat total choices denials gather ascends leads may-end first-or far-end denying-rows denying-free end
     closure brings elem complement set-of lower-half upper-half smallest-matching check is-violating faults walk advance placing lowest-above highest-below least sweep
     matching all is-line meets env lookup points clear below between inSet hasAt tick sure nearAt
 examples = refl

@@ -40,7 +40,7 @@ module _ (far : Row → ℕ) (r : ℕ) where
 
 -- For a sheet that is read: the list that consequent number i + 1 is chosen from, and no other.
 pub sheet-denials-in-order : (sheet : Sheet) → SheetRead sheet → (i : ℕ) → i < length (sheet .consequents) → (ds : List (List Row))
-    → (ds ≡ getD (choices (sheet .antecedent) 1 (sheet .consequents)) i [])
+    → (ds ≡ getD (choices (far-end (sheet .antecedent)) 1 (sheet .consequents)) i [])
     ↔ DenialsOf (far-end (sheet .antecedent) (getD (sheet .consequents) i [])) (10 * (1 + i) + 9) [] (getD (sheet .consequents) i []) ds
 sheet-denials-in-order sheet R i h ds =
     let c = getD (sheet .consequents) i [] in

@@ -4,12 +4,14 @@ pub mod Base
 pub mod Rules
 pub mod Section
 pub mod Points
+pub mod Links
 pub mod Far
 pub mod Product
 pub mod Glue
 pub mod Place
 -- Demand 3 of sound sheets, and the check's rows at fault.
 pub mod Agreement
+pub mod Long
 pub mod Extension
 pub mod Faults
 pub mod Demand
@@ -24,6 +26,7 @@ pub mod Final
 pub mod Clock
 pub mod Unmoved
 pub mod Closure
+pub mod Taken
 pub mod InOrder
 pub mod Patterns
 pub mod Unique

@@ -15,12 +15,12 @@ use Rattle.scenario.specs.Reading.{IsEvents, LogRead}
 use Rattle.scenario.proofs.Rules.{Laws}
 use Rattle.scenario.proofs.Halves.{complement-whole}
 
-inSet-zero : (s : ℕ) → inSet s 0 ≡ eqb (s % 2) 1
+pub inSet-zero : (s : ℕ) → inSet s 0 ≡ eqb (s % 2) 1
 unfolding inSet
 inSet-zero s = ap (λ (k : ℕ). eqb (k % 2) 1) (div-one s)
 
 -- one bit further is half the number
-inSet-suc : (s e : ℕ) → inSet s (suc e) ≡ inSet (s / 2) e
+pub inSet-suc : (s e : ℕ) → inSet s (suc e) ≡ inSet (s / 2) e
 unfolding inSet
 inSet-suc s e = ap (λ (k : ℕ). eqb (k % 2) 1) (ap (λ (d : ℕ). s / d) (pow-succ' 2 e) ∙ sym (div-div-eq-div-mul s 2 (2 ^ e)))
 
@@ -49,7 +49,7 @@ inSet-complement (suc e) (suc k) s h l =
     halves : (2 ^ suc k - 1 - s) / 2 ≡ 2 ^ k - 1 - s / 2
     halves = omega (arith, pow-succ' 2 k)
 
-inSet-none : (e : ℕ) → inSet 0 e ≡ false
+pub inSet-none : (e : ℕ) → inSet 0 e ≡ false
 inSet-none zero = inSet-zero 0
 inSet-none (suc e) = inSet-suc 0 e ∙ inSet-none e
 

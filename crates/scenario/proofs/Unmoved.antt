@@ -275,7 +275,7 @@ module _ (log : Log) where
         (behind (closure passed (needs row)) (all-closure Un passed (needs row) h) (denying-rows (far row) r row) (denying-unmoved (far row) r row (u .0)))
         (denials-unmoved far r (row ∷ passed) rows (u .0, h) (u .1))
 
-    choices-unmoved : (i : ℕ) (cs : List (List Row)) → All (All Un) cs → All (All (All Un)) (choices (sheet .antecedent) i cs)
+    choices-unmoved : (i : ℕ) (cs : List (List Row)) → All (All Un) cs → All (All (All Un)) (choices (far-end (sheet .antecedent)) i cs)
     unfolding choices
     choices-unmoved i [] u = tt
     choices-unmoved i (c ∷ cs) u = (denials-unmoved (far-end (sheet .antecedent) c) (10 * i + 9) [] c tt (u .0), choices-unmoved (suc i) cs (u .1))
@@ -294,7 +294,7 @@ module _ (log : Log) where
     rows-unmoved : (m : ℕ) → All Un (antiscenario sheet m)
     unfolding antiscenario chosen
     rows-unmoved m =
-        let cs = choices (sheet .antecedent) 1 (sheet .consequents) in
+        let cs = choices (far-end (sheet .antecedent)) 1 (sheet .consequents) in
         all-append Un (sheet .antecedent) (flat (choose [] cs (m - 1))) (U .antecedent) (chosen-unmoved cs (m - 1) (choices-unmoved 1 (sheet .consequents) (U .consequents)))
 
     -- Each number has the matchings that it had, and its search finds what it found.

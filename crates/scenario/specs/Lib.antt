@@ -1,4 +1,5 @@
 -- What document 01's terms mean, in the order in which to read them beside it.
+pub mod Links
 pub mod Rows
 pub mod Log
 pub mod Denials
@@ -10,3 +11,4 @@ pub mod Search
 pub mod Reading
 pub mod Clock
 pub mod Before
+pub mod Long

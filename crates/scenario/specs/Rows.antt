@@ -4,6 +4,7 @@ use mathlib.Core.Bool.{Bool, false, not, _&&_, _||_, cond}
 use mathlib.Core.List.{List, [], _∷_, _++_, map}
 use Prim.Native.Nat.{ℕ, zero, suc, _+_, _-_, _*_, _/_, _%_, _^_, min, max}
 use lib.Dec.{ltb, eqb}
+use Rattle.scenario.specs.Links.{Link, link, leads}
 
 -- "1 POINT .. 12 EVENT": a row, a constructor to a kind, in the order of the numbers. p and q are point numbers, and so is a of EARLIER and LATER;
 -- s is a set of events, lo and hi are limits. A list of rows is source document 000's scenario (definition 2.2.1): its arrows to a next or last event,
@@ -159,11 +160,57 @@ denying-free r p q s inner start = (point r s ∷ before r p ∷ []) ∷ []
 denying-free r p q s inner close = (point r s ∷ before p r ∷ []) ∷ []
 denying-free r p q s inner inner = (point r s ∷ before p r ∷ before r q ∷ []) ∷ (point r s ∷ before q r ∷ before r p ∷ []) ∷ []
 
--- How far the point of a NEXT or LAST row of the consequent is missing: up to the close, from the start. No other row asks.
+-- The far end of a missing point. Document 02, A8; document 000, section 5.1. specs/Denials has its sentences as laws.
+
+-- what rows give, in their order
+module _ {A : Type 0} where
+  unfoldable pub gather : (Row → List A) → List Row → List A
+  gather f [] = []
+  gather f (row ∷ rows) = f row ++ gather f rows
+
+-- the link of a BEFORE row, from its p to its q
+abbrev pub before-link : Row → List Link
+before-link (point p s) = []
+before-link (next p q s) = []
+before-link (last p q s) = []
+before-link (earlier p q a) = []
+before-link (later p q a) = []
+before-link (before p q) = link p q ∷ []
+before-link (apart p q) = []
+before-link (same p q) = []
+before-link (free p q s) = []
+before-link (within p q lo hi) = []
+before-link (outside p q lo hi) = []
+before-link (event p s) = []
+
+-- "BEFORE rows lead, in one or more steps, from" x to y: of two different points, in no step or more is the same
+unfoldable pub ascends : List Row → (x y : ℕ) → Bool
+ascends rows x y = not (eqb x y) && leads (gather before-link rows) x y
+
+-- z may be the far end: it is beyond the missing point, it "is not q", and q is the edge, the start for NEXT and the close for LAST, or q and z are in order
+unfoldable pub may-end : (beyond ordered : ℕ → Bool) (q edge z : ℕ) → Bool
+may-end beyond ordered q edge z = beyond z && not (eqb z q) && (eqb q edge || ordered z)
+
+-- "BEFORE rows of the same consequent lead, in one or more steps, from a NEXT row's p to an antecedent point z"; "q is 0 or BEFORE rows of the antecedent lead from
+-- q to z"
+abbrev pub ends-next : (antecedent consequent : List Row) (p q z : ℕ) → Bool
+ends-next antecedent consequent p q = may-end (ascends consequent p) (ascends antecedent q) q 0
+
+-- "For LAST, again with z not q, the consequent's BEFORE rows lead from z to p, q is 99 or the antecedent's rows lead from z to q"
+abbrev pub ends-last : (antecedent consequent : List Row) (p q z : ℕ) → Bool
+ends-last antecedent consequent p q = may-end (λ z. ascends consequent z p) (λ z. ascends antecedent z q) q close-point
+
+-- the first of the points that passes the test, or else d
+unfoldable pub first-or : (d : ℕ) → (ℕ → Bool) → List ℕ → ℕ
+first-or d f [] = d
+first-or d f (z ∷ zs) = cond (f z) z (first-or d f zs)
+
+-- How far the point of a NEXT or LAST row of the consequent is missing: to such an antecedent point z, "of several z the lowest number", which is the first;
+-- otherwise up to the close, from the start: "the long denial stays". No other row asks.
 unfoldable pub far-end : (antecedent consequent : List Row) → Row → ℕ
 far-end antecedent consequent (point p s) = 0
-far-end antecedent consequent (next p q s) = close-point
-far-end antecedent consequent (last p q s) = 0
+far-end antecedent consequent (next p q s) = first-or close-point (ends-next antecedent consequent p q) (points antecedent)
+far-end antecedent consequent (last p q s) = first-or 0 (ends-last antecedent consequent p q) (points antecedent)
 far-end antecedent consequent (earlier p q a) = 0
 far-end antecedent consequent (later p q a) = 0
 far-end antecedent consequent (before p q) = 0
@@ -174,8 +221,9 @@ far-end antecedent consequent (within p q lo hi) = 0
 far-end antecedent consequent (outside p q lo hi) = 0
 far-end antecedent consequent (event p s) = 0
 
--- "Each consequent row gives the denials below": their own rows, far being the row's far end and r the spare point 10i + 9. The rules 4.2.3, 4.2.4 and 4.2.6
--- of 000; its 4.2.5 falls away with EARLIER and LATER, and every row is denied here, also one that the path excludes.
+-- "Each consequent row gives the denials below": their own rows, far being the row's far end and r the spare point 10i + 9. A8: "FREE q z a in place of
+-- FREE q 99 a", and for LAST "FREE z q a". The rules 4.2.3, 4.2.4 and 4.2.6 of 000; its 4.2.5 falls away with EARLIER and LATER, and every row is denied here,
+-- also one that the path excludes.
 unfoldable pub denying-rows : (far r : ℕ) → Row → List (List Row)
 denying-rows far r (point p s) = []
 denying-rows far r (next p q s) = (free q far s ∷ []) ∷ []

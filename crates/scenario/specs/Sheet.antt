@@ -76,10 +76,10 @@ pub record Violating (run : Run) (sheet : Sheet) (xs : List ℕ) : Type 0 where
 
 -- Antiscenarios
 
--- the denials of each consequent, from number i on
-unfoldable pub choices : (antecedent : List Row) → ℕ → List (List Row) → List (List (List Row))
-choices antecedent i [] = []
-choices antecedent i (c ∷ cs) = denials (far-end antecedent c) (10 * i + 9) [] c ∷ choices antecedent (suc i) cs
+-- the denials of each consequent, from number i on, by the far ends of its rows
+unfoldable pub choices : (far : (consequent : List Row) → Row → ℕ) → ℕ → List (List Row) → List (List (List Row))
+choices far i [] = []
+choices far i (c ∷ cs) = denials (far c) (10 * i + 9) [] c ∷ choices far (suc i) cs
 
 module _ {A : Type 0} where
   -- how many ways there are to choose one of each list: one where there is no list
@@ -94,11 +94,11 @@ module _ {A : Type 0} where
 
 -- "Their count N is the product of the denials per consequent; with k = 0, N is 1"
 unfoldable pub count : Sheet → ℕ
-count sheet = total (choices (sheet .antecedent) 1 (sheet .consequents))
+count sheet = total (choices (far-end (sheet .antecedent)) 1 (sheet .consequents))
 
 -- "Number m: m − 1 in mixed counting": its denials, one for each consequent
 unfoldable pub chosen : Sheet → ℕ → List (List Row)
-chosen sheet m = choose [] (choices (sheet .antecedent) 1 (sheet .consequents)) (m - 1)
+chosen sheet m = choose [] (choices (far-end (sheet .antecedent)) 1 (sheet .consequents)) (m - 1)
 
 -- "An antiscenario is the antecedent's rows, then one denial for each consequent in order." 000 has a fusion here (4.1.1).
 unfoldable pub antiscenario : Sheet → ℕ → List Row

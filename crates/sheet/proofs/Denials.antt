@@ -64,14 +64,13 @@ module _ (z : Row → ℕ) (r i : ℕ) where
           ∙ ap₂ _+_ (length-map (denying-rows (z (rowIn l)) r (rowIn l)) (λ d. closure ks (needs (rowIn l)) ++ d) ∙ line-weight (z (rowIn l)) r l) (f (rowIn l ∷ ks))
       go false f = omega (arith, f ks)
 
--- all sections'
-pub choices-product : (antecedent : List Row) (ls : List Line) (left i : ℕ) → total (choices antecedent i (sections i left ls)) ≡ product i left ls
+-- all sections', whatever the far ends of their rows
+pub choices-product : (far : (consequent : List Row) → Row → ℕ) (ls : List Line) (left i : ℕ) → total (choices far i (sections i left ls)) ≡ product i left ls
 unfolding total choices sections product
-choices-product antecedent ls zero i = refl
-choices-product antecedent ls (suc left) i =
-    ap₂ _*_ (section-weight (far-end antecedent (section i ls)) (10 * i + 9) i ls []) (choices-product antecedent ls left (suc i))
+choices-product far ls zero i = refl
+choices-product far ls (suc left) i = ap₂ _*_ (section-weight (far (section i ls)) (10 * i + 9) i ls []) (choices-product far ls left (suc i))
 
 -- N
 pub count-product : (k : ℕ) (ls : List Line) → count (sheetOf k ls) ≡ product 1 k ls
 unfolding count sheetOf
-count-product k ls = choices-product (section 0 ls) ls k 1
+count-product k ls = choices-product (far-end (section 0 ls)) ls k 1

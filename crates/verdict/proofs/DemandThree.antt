@@ -49,10 +49,10 @@ module _ (s l : List ℕ) (A : Accepted s l) where
   abbrev F : ℕ → Answer
   F m = smallest-matching run (antiscenario sheet m)
 
-  N : countIn s ≡ count sheet
+  pub N : countIn s ≡ count sheet
   N = accepted-sheet s (A .sheet) .count
 
-  low : All (λ (e : ℕ). e < event-count) (logOf l .events)
+  pub low : All (λ (e : ℕ). e < event-count) (logOf l .events)
   unfolding logOf
   low = accepted-log l (A .log) .low
 

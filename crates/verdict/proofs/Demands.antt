@@ -3,15 +3,17 @@
 use mathlib.Core.Path.{_≡_}
 use mathlib.Core.Logic.{_↔_}
 use mathlib.Core.Bool.{true}
-use mathlib.Core.List.{List, [], _∷_, map}
+use mathlib.Core.List.{List, [], _∷_, map, List·Memᴰ}
 use Prim.Native.Nat.{ℕ, _+_, _*_, _≤_, _<_}
 use lib.ListN.{length, getD, take}
 use lib.Dec.{T}
-use Rattle.scenario.specs.Rows.{Row, points, far-end}
+use Rattle.scenario.specs.Rows.{Row, next, last, points, close-point, far-end}
+use Rattle.scenario.specs.Denials.{EndsNext, EndsLast, Taken}
 use Rattle.scenario.specs.DenialsInOrder.{DenialsOf}
 use Rattle.scenario.specs.Log.{Log}
 use Rattle.scenario.specs.Fields.{Tagged, tagged}
 use Rattle.scenario.specs.Sheet.{choices, chosen, antiscenario, matching}
+use Rattle.scenario.proofs.Taken.{next-far-end, last-far-end}
 use Rattle.scenario.proofs.InOrder.{sheet-denials-in-order}
 use Rattle.sheet.specs.Reading.{answer, sheetIn, countIn}
 use Rattle.row.specs.Row.{rowIn}
@@ -59,8 +61,13 @@ pub record DemandTwo (s : List ℕ) (m : ℕ) : Type 0 where
   pub sections : writtenLines s m ≡ map numbersOf (tagged 0 (sheetIn s .antecedent ∷ chosen (sheetIn s) m))
   -- chosen from the list of all denials of that consequent, which is document 01's: which they are, how many and in which order,
   pub denials : (i : ℕ) → i < length (sheetIn s .consequents) → (ds : List (List Row))
-      → (ds ≡ getD (choices (sheetIn s .antecedent) 1 (sheetIn s .consequents)) i [])
+      → (ds ≡ getD (choices (far-end (sheetIn s .antecedent)) 1 (sheetIn s .consequents)) i [])
       ↔ DenialsOf (far-end (sheetIn s .antecedent) (getD (sheetIn s .consequents) i [])) (10 * (1 + i) + 9) [] (getD (sheetIn s .consequents) i []) ds
+  -- a missing point's far end being that of document 02's sentences (A8): of the antecedent points that they name the lowest, or else the close, the start;
+  pub next-ends : (i : ℕ) → i < length (sheetIn s .consequents) → (p q set : ℕ) → List·Memᴰ (next p q set) (getD (sheetIn s .consequents) i [])
+      → Taken (EndsNext (sheetIn s .antecedent) (getD (sheetIn s .consequents) i []) p q) close-point (far-end (sheetIn s .antecedent) (getD (sheetIn s .consequents) i []) (next p q set))
+  pub last-ends : (i : ℕ) → i < length (sheetIn s .consequents) → (p q set : ℕ) → List·Memᴰ (last p q set) (getD (sheetIn s .consequents) i [])
+      → Taken (EndsLast (sheetIn s .antecedent) (getD (sheetIn s .consequents) i []) p q) 0 (far-end (sheetIn s .antecedent) (getD (sheetIn s .consequents) i []) (last p q set))
   -- and without the sections they are the antiscenario that the search, judging and demand 3 speak of;
   pub rows : map rowIn (writtenLines s m) ≡ antiscenario (sheetIn s) m
   -- "At most 58 points and 98 rows."
@@ -75,6 +82,8 @@ demand-two s accepted m = record {
   only = written-only s accepted m;
   sections = written-sections s m;
   denials = sheet-denials-in-order (sheetIn s) (accepted-sheet s accepted .read);
+  next-ends = next-far-end (sheetIn s) (accepted-sheet s accepted .read);
+  last-ends = last-far-end (sheetIn s) (accepted-sheet s accepted .read);
   rows = written-rows s m;
   few = written-few s accepted m;
   judged = λ l positions count log-accepted low high right. judge-says s l m positions count right accepted log-accepted low high;

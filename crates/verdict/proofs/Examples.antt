@@ -9,6 +9,7 @@ use lib.Dec.{eqb}
 use borrow.Author.Tests.{eq-eqb}
 use Rattle.columns.specs.Number as number
 use Rattle.columns.specs.Spell as spelling
+use Rattle.scenario.specs.Links as links
 use Rattle.scenario.specs.Rows as rows
 use Rattle.scenario.specs.Sheet as sheets
 use Rattle.scenario.specs.Log as logs
@@ -185,7 +186,7 @@ unfolding number.fieldAt number.numeral number.scan spelling.spell spelling.left
     reading.answer reading.taken reading.closing reading.headOf reading.rowsFrom reading.rowBytes reading.after reading.sheetOf reading.section reading.sections row.rowIn
     row.lineOf rules.refusal rules.sectionFits rules.refusalWithin rules.originFits rules.kindFits rules.pFits rules.isDue rules.ordinary rules.known rules.qFits rules.knownBut rules.ordinaryBut rules.bothOrdinary rules.restFits rules.setOnly rules.bothZero rules.roomFits rules.enter rules.advance
     log.answer log.taken log.closing log.headOf log.linesFrom log.lineBytes log.lineOf log.logOf
-    rows.denials rows.denying-rows rows.denying-free rows.end rows.far-end rows.closure rows.brings rows.elem rows.set-of rows.lower-half rows.upper-half rows.complement rows.meets rows.points rows.clear rows.below rows.between
+    rows.denials rows.denying-rows rows.denying-free rows.end rows.gather rows.ascends links.leads rows.may-end rows.first-or rows.far-end rows.closure rows.brings rows.elem rows.set-of rows.lower-half rows.upper-half rows.complement rows.meets rows.points rows.clear rows.below rows.between
     fields.decode fields.fields fields.tagged fields.written
     sheets.count sheets.total sheets.choices sheets.choose sheets.chosen sheets.flat sheets.antiscenario sheets.matching sheets.all sheets.is-line sheets.env sheets.lookup
     logs.inSet logs.hasAt logs.tick logs.sure logs.nearAt walks.placing walks.lowest-above walks.highest-below walks.advance walks.walk

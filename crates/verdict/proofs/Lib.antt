@@ -2,6 +2,7 @@ pub mod Demands
 pub mod DemandThree
 pub mod Before
 pub mod Unmoved
+pub mod Long
 pub mod Matchings
 pub mod Reading
 pub mod Examples

@@ -135,6 +135,24 @@ fn standing_measure() -> Vec<u8> {
     sheet_text(1, &[[0, POINT, 1, 0, 8, 0], [0, POINT, 2, 0, 8, 0], [1, NEXT, 11, 1, 8, 0]])
 }
 
+/// Document 02, A8: after each injection a correction comes before any scan. Number 1 denies NEXT, up to the scan.
+fn correction_between() -> Vec<u8> {
+    let antecedent = [[0, POINT, 1, 0, 2, 0], [0, POINT, 2, 0, 8, 0], [0, BEFORE, 1, 2, 0, 0]];
+    sheet_text(1, &[&antecedent[..], &[[1, NEXT, 11, 1, 4, 0], [1, BEFORE, 11, 2, 0, 0]]].concat())
+}
+
+/// Injections and scans by turns, the only correction in the last line; and the same with a correction between them.
+fn injections(n: u32, is_kept: bool) -> Vec<u8> {
+    let event = |at: u32| match (is_kept, at % 3) {
+        (true, 1) => 1,
+        (true, 2) => 2,
+        (true, _) => 3,
+        (false, _) if at == n => 2,
+        (false, _) => 1 + 2 * (at % 2),
+    };
+    log_of(&(1..=n).map(|at| (10 * at, event(at))).collect::<Vec<_>>()).text()
+}
+
 /// Two points with set 8, and a consequent about what stands around or between them.
 fn two_points(consequent: [u32; 6]) -> Vec<u8> {
     sheet_text(1, &[[0, POINT, 1, 0, 8, 0], [0, POINT, 2, 0, 8, 0], consequent])
@@ -168,6 +186,10 @@ fn alone() {
         tell(&format!("search S, number {number}"), search);
     }
     tell("timed case: none", &mut || keep(Host.search_into(&timed_case(), black_box(&scans), 1, &mut *places.borrow_mut())));
+    for (name, is_kept) in [("correction between: broken", false), ("correction between: kept", true)] {
+        let log = injections(4000, is_kept);
+        tell(name, &mut || keep(Host.search_into(&correction_between(), black_box(&log), 1, &mut *places.borrow_mut())));
+    }
     tell("check S", &mut || keep(Host.check_number(&sheet_s(), black_box(&mixed))));
     tell("standing measure", &mut || keep(Host.check_number(&standing_measure(), black_box(&scans))));
 }

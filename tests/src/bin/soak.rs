@@ -1,7 +1,8 @@
 //! Comparisons for as long as asked: soak SECONDS [SEED] with random pairs, soak families [PART of PARTS] with the larger families.
 use satskhubo_tests::compare::{compare, compare_long, compare_once, Mismatch, Tally};
+use satskhubo_tests::generate::chains::{chain_logs, chains};
 use satskhubo_tests::generate::families::{self, Family};
-use satskhubo_tests::generate::pairs::{large_pair_of, long_pair_of, pair_of};
+use satskhubo_tests::generate::pairs::{chained_pair_of, large_pair_of, long_pair_of, pair_of};
 use satskhubo_tests::generate::{logs, sheets, Pair};
 use satskhubo_tests::host::Host;
 use satskhubo_tests::random::Random;
@@ -83,15 +84,17 @@ impl Soaked {
 struct Soak {
     large: Soaked,
     boards: Soaked,
+    chains: Soaked,
 }
 
 impl Soak {
     fn new() -> Soak {
         let large = Soaked::new(families::large(), &families::logs());
-        Soak { large, boards: Soaked::new(families::boards(), &families::board_logs()) }
+        let boards = Soaked::new(families::boards(), &families::board_logs());
+        Soak { large, boards, chains: Soaked::new(chains(), &chain_logs()) }
     }
 
-    /// Mostly the seed's own pair; else one of the families, one with a longer log, or one with a large sheet.
+    /// Mostly the seed's own pair; else one of the families, one with a longer log, one with a large sheet, or one with chains.
     fn compare(&self, seed: u64) -> Result<Tally, Mismatch> {
         let mut random = Random::new(!seed);
         match random.below(100) {
@@ -104,6 +107,8 @@ impl Soak {
             }
             29 => compare_long(&Host, &long_pair_of(seed), seed),
             30..=39 => compare(&Host, &large_pair_of(seed), seed, 12),
+            40..=46 => compare(&Host, &chained_pair_of(seed), seed, 12),
+            47..=49 => compare(&Host, &self.chains.pair(&mut random), seed, 12),
             _ => compare(&Host, &pair_of(seed), seed, 12),
         }
     }

@@ -1,5 +1,6 @@
 //! Families written out in full: every sheet of a few shapes over a few sets and limits, and every log of up to three lines. Those of the newer
 //! boards have sets in either half and in both.
+use super::chains::on_two_points_below_32;
 use crate::reference::blunder::Blunder;
 use crate::reference::log::{Line, Log};
 use crate::reference::sheet::{self, introduced, kind::*, Row, CLOSE, START};
@@ -11,7 +12,7 @@ pub struct Family {
 }
 
 impl Family {
-    fn new(name: &'static str, k: u32, sheets: &[Vec<Row>]) -> Family {
+    pub fn new(name: &'static str, k: u32, sheets: &[Vec<Row>]) -> Family {
         Family { name, sheets: sheets.iter().map(|rows| sheet::text(k, rows)).collect() }
     }
 }
@@ -198,5 +199,6 @@ pub fn large() -> Vec<Family> {
         Family::new("no consequents", 0, &[none, one_row.clone(), MORE.one_more(&one_row, 0)].concat()),
         Family::new("one consequent of up to two rows", 1, &[antecedents, one.clone(), MORE.one_more(&one, 1)].concat()),
         Family::new("two consequents of one row", 2, &MORE.one_more(&first, 2)),
+        Family::new("chains of BEFORE rows", 1, &on_two_points_below_32()),
     ]
 }

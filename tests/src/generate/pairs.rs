@@ -2,9 +2,10 @@
 use super::{damage, logs, sheets, Pair};
 use crate::random::Random;
 use crate::reference::blunder::Blunder;
+use crate::reference::far_end::far_end;
 use crate::reference::log::Log;
 use crate::reference::operations::{verdict, Verdict};
-use crate::reference::sheet::{self, kind::*, Row, Sheet};
+use crate::reference::sheet::{self, is_end, kind::*, Row, Sheet};
 use crate::reference::weeded;
 
 const MOST_TRIES: usize = 40;
@@ -15,14 +16,23 @@ enum Wanted {
     Anything,
     AntecedentMatched,
     HoldsByConsequents,
+    /// Document 02, A8.
+    ShortDenial,
 }
 
 fn any_wanted(random: &mut Random) -> Wanted {
-    match random.below(6) {
+    match random.below(7) {
         0 => Wanted::Anything,
         1..=3 => Wanted::AntecedentMatched,
-        _ => Wanted::HoldsByConsequents,
+        4 | 5 => Wanted::HoldsByConsequents,
+        _ => Wanted::ShortDenial,
     }
+}
+
+/// A denial of NEXT or LAST that ends at an antecedent point.
+pub fn has_short_denial(sheet: &Sheet) -> bool {
+    let mut missing = sheet.rows.iter().filter(|row| [NEXT, LAST].contains(&row.kind));
+    missing.any(|row| !is_end(far_end(sheet, row)))
 }
 
 fn is_as_wanted(wanted: Wanted, sheet: &Sheet, log: &Log) -> bool {
@@ -31,6 +41,7 @@ fn is_as_wanted(wanted: Wanted, sheet: &Sheet, log: &Log) -> bool {
         Wanted::Anything => true,
         Wanted::AntecedentMatched => sheet.count > 0 && matched(),
         Wanted::HoldsByConsequents => sheet.count > 0 && matched() && verdict(sheet, log) == Verdict::Holds,
+        Wanted::ShortDenial => sheet.count > 0 && has_short_denial(sheet) && matched(),
     }
 }
 
@@ -120,6 +131,14 @@ pub fn large_pair_of(seed: u64) -> Pair {
     let rows = sheets::filled(&mut random, &rows);
     let (k, rows) = if random.one_in(3) { sheets::widened(&mut random, k, &rows) } else { (k, rows) };
     Pair { sheet: sheet::text(k, &rows), log: log.text() }
+}
+
+/// Document 02, A8: an accepted sheet with chains of BEFORE rows, and a short log.
+pub fn chained_pair_of(seed: u64) -> Pair {
+    let mut random = Random::new(seed);
+    let wanted = if random.one_in(2) { Wanted::ShortDenial } else { any_wanted(&mut random) };
+    let log = logs::random(&mut random, 6);
+    Pair { sheet: sheet_for(&mut random, &sheets::CHAINS, wanted, &log), log: log.text() }
 }
 
 /// An accepted sheet of few antiscenarios, and a log of hundreds or thousands of lines.

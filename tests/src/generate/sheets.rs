@@ -2,7 +2,7 @@
 use crate::generate::logs::EVENTS;
 use crate::random::Random;
 use crate::reference::log::Log;
-use crate::reference::sheet::{self, kind::*, Row, CLOSE, MOST_CONSEQUENT_ROWS, START};
+use crate::reference::sheet::{self, is_end, kind::*, Row, CLOSE, MOST_ANTECEDENT_ROWS, MOST_CONSEQUENT_ROWS, START};
 
 /// How large a random sheet may become.
 pub struct Shape {
@@ -14,6 +14,8 @@ pub struct Shape {
     pub consequent_rows: u32,
     /// None for sheets some of whose consequents are empty.
     pub fewest_rows: Option<u32>,
+    /// Of twelve rows of kinds 6 to 12 so many are BEFORE rows as chains have them.
+    pub leading: usize,
 }
 
 pub const SMALL: Shape = Shape {
@@ -24,6 +26,7 @@ pub const SMALL: Shape = Shape {
     consequent_points: 2,
     consequent_rows: 2,
     fewest_rows: None,
+    leading: 1,
 };
 pub const MIDDLE: Shape = Shape {
     antecedent_points: 3,
@@ -33,6 +36,7 @@ pub const MIDDLE: Shape = Shape {
     consequent_points: 3,
     consequent_rows: 3,
     fewest_rows: None,
+    leading: 1,
 };
 pub const LARGE: Shape = Shape {
     antecedent_points: 4,
@@ -42,6 +46,7 @@ pub const LARGE: Shape = Shape {
     consequent_points: 8,
     consequent_rows: 4,
     fewest_rows: None,
+    leading: 1,
 };
 
 /// Sheets whose antiscenarios place at most two points freely, for logs of thousands of lines.
@@ -53,6 +58,7 @@ pub const NARROW: Shape = Shape {
     consequent_points: 3,
     consequent_rows: 2,
     fewest_rows: None,
+    leading: 1,
 };
 
 /// Sheets whose antiscenarios place at most three points freely, for logs of hundreds of lines.
@@ -68,6 +74,7 @@ pub const MANY: Shape = Shape {
     consequent_points: 4,
     consequent_rows: 20,
     fewest_rows: Some(12),
+    leading: 1,
 };
 
 /// Sheets of up to six consequents with so few rows that a log often meets them.
@@ -79,6 +86,19 @@ pub const FEW_ROWS: Shape = Shape {
     consequent_points: 1,
     consequent_rows: 2,
     fewest_rows: Some(1),
+    leading: 1,
+};
+
+/// Document 02, A8: sheets with little but points and BEFORE rows between them.
+pub const CHAINS: Shape = Shape {
+    antecedent_points: 4,
+    antecedent_rows: 4,
+    fewest_consequents: 1,
+    consequents: 2,
+    consequent_points: 3,
+    consequent_rows: 5,
+    fewest_rows: Some(2),
+    leading: 10,
 };
 
 /// Sheet S of document 01.
@@ -206,6 +226,42 @@ fn introducing_row(random: &mut Random, section: u32, p: u32, ordinary: &[u32]) 
     Row::of_set(section, kind, p, q, set(random))
 }
 
+/// A BEFORE row of two antecedent points, mostly the lower number first, so that few antecedents contradict themselves, and often the next one.
+fn ordering_row(random: &mut Random, points: &[u32]) -> Row {
+    let (p, q) = two_of(random, points);
+    let (p, q) = match random.below(6) {
+        0 => (p, q),
+        1..=3 => (p.min(q), p.min(q) + 1),
+        _ => (p.min(q), p.max(q)),
+    };
+    Row::new(0, BEFORE, p, q, 0, 0)
+}
+
+/// A BEFORE row from the point of a NEXT row or to that of a LAST row, mostly with an antecedent point on the other side of q, which few sheets
+/// contradict; or between any two points.
+fn leading_row(random: &mut Random, section: u32, rows: &[Row], known: &[u32]) -> Row {
+    let introducing: Vec<Row> = rows.iter().filter(|row| [NEXT, LAST].contains(&row.kind)).copied().collect();
+    if introducing.is_empty() || random.one_in(4) {
+        let (p, q) = two_of(random, known);
+        return Row::new(section, BEFORE, p, q, 0, 0);
+    }
+    let missing = random.pick(&introducing);
+    let others: Vec<u32> = known.iter().copied().filter(|&point| point != missing.p).collect();
+    let is_beyond = |z: u32| z < 10 && if missing.kind == NEXT { z > missing.q } else { z < missing.q };
+    let beyond: Vec<u32> = others.iter().copied().filter(|&z| is_beyond(z)).collect();
+    let any = beyond.is_empty() || random.one_in(3);
+    let other = random.pick(if any { &others } else { &beyond });
+    let (p, q) = if missing.kind == NEXT { (missing.p, other) } else { (other, missing.p) };
+    Row::new(section, BEFORE, p, q, 0, 0)
+}
+
+fn antecedent_row(random: &mut Random, shape: &Shape, known: &[u32]) -> Row {
+    match known.len() > 1 && random.below(12) < shape.leading {
+        true => ordering_row(random, known),
+        false => demanding_row(random, 0, known),
+    }
+}
+
 fn antecedent(random: &mut Random, shape: &Shape) -> Vec<Row> {
     let mut rows = Vec::new();
     let points = if random.one_in(12) { 0 } else { random.from_to(1, shape.antecedent_points) };
@@ -214,13 +270,20 @@ fn antecedent(random: &mut Random, shape: &Shape) -> Vec<Row> {
         rows.push(Row::of_set(0, POINT, p, 0, set(random)));
         known.push(p);
         if random.one_in(3) && shape.antecedent_rows > 0 {
-            rows.push(demanding_row(random, 0, &known));
+            rows.push(antecedent_row(random, shape, &known));
         }
     }
     for _ in 0..random.from_to(0, shape.antecedent_rows) {
-        rows.push(demanding_row(random, 0, &known));
+        rows.push(antecedent_row(random, shape, &known));
     }
     rows
+}
+
+fn consequent_row(random: &mut Random, shape: &Shape, section: u32, rows: &[Row], known: &[u32]) -> Row {
+    match known.len() > 1 && random.below(12) < shape.leading {
+        true => leading_row(random, section, rows, known),
+        false => demanding_row(random, section, known),
+    }
 }
 
 fn consequent(random: &mut Random, shape: &Shape, section: u32, antecedent_points: &[u32]) -> Vec<Row> {
@@ -240,10 +303,40 @@ fn consequent(random: &mut Random, shape: &Shape, section: u32, antecedent_point
             known.push(p);
         } else if demands < shape.consequent_rows {
             demands += 1;
-            rows.push(demanding_row(random, section, &known));
+            let row = consequent_row(random, shape, section, &rows, &known);
+            rows.push(row);
         }
     }
     rows
+}
+
+/// The rows with one more at the end of a section, if it is not full.
+fn put_last(rows: &mut Vec<Row>, row: Row) {
+    let most = if row.section == 0 { MOST_ANTECEDENT_ROWS } else { MOST_CONSEQUENT_ROWS };
+    if rows.iter().filter(|other| other.section == row.section).count() < most {
+        let end = rows.iter().filter(|other| other.section <= row.section).count();
+        rows.insert(end, row);
+    }
+}
+
+/// Document 02, A8: puts in a BEFORE row from the point of a NEXT row to one of the antecedent, and mostly the antecedent's order that makes its
+/// denial short; for LAST the other way about.
+fn put_chain(random: &mut Random, rows: &mut Vec<Row>) {
+    let points = sheet::introduced(rows, 0);
+    let is_fit = |row: &&Row| [NEXT, LAST].contains(&row.kind) && (is_end(row.q) || points.contains(&row.q));
+    let missing: Vec<Row> = rows.iter().filter(is_fit).copied().collect();
+    if missing.is_empty() || points.is_empty() {
+        return;
+    }
+    let (row, z) = (random.pick(&missing), random.pick(&points));
+    let to_z = |section, point| match row.kind {
+        NEXT => Row::new(section, BEFORE, point, z, 0, 0),
+        _ => Row::new(section, BEFORE, z, point, 0, 0),
+    };
+    put_last(rows, to_z(row.section, row.p));
+    if !is_end(row.q) && row.q != z && !random.one_in(4) {
+        put_last(rows, to_z(0, row.q));
+    }
 }
 
 /// A random sheet, which is accepted.
@@ -258,6 +351,9 @@ pub fn random_rows(random: &mut Random, shape: &Shape) -> (u32, Vec<Row>) {
     let points = sheet::introduced(&rows, 0);
     for section in 1..=k {
         rows.extend(consequent(random, shape, section, &points));
+    }
+    if random.one_in(2) {
+        put_chain(random, &mut rows);
     }
     (k, rows)
 }

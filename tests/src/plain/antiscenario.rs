@@ -21,6 +21,37 @@ fn needed(row: &Row) -> u128 {
     }
 }
 
+/// The antecedent's points, in a set of points.
+const ANTECEDENT: u128 = 0b11110;
+
+/// The points that BEFORE rows lead to from a point, in one or more steps; backwards, those that they lead from.
+fn reached(rows: &[Row], from: u8, backwards: bool) -> u128 {
+    let mut reached: u128 = 0;
+    loop {
+        let before = reached;
+        for row in rows.iter().filter(|row| row.kind == 6) {
+            let (x, y) = if backwards { (row.q, row.p) } else { (row.p, row.q) };
+            if x == from || reached >> x & 1 == 1 {
+                reached |= 1 << y;
+            }
+        }
+        if reached == before {
+            return reached;
+        }
+    }
+}
+
+/// Document 02, A8: the far end of the denial of NEXT or LAST, beside q.
+fn far_end(antecedent: &[Row], consequent: &[Row], row: &Row) -> u8 {
+    let backwards = row.kind == 3;
+    let in_order = if is_end(row.q) { ANTECEDENT } else { ANTECEDENT & reached(antecedent, row.q, backwards) };
+    match in_order & reached(consequent, row.p, backwards) & !(1 << row.q) {
+        0 if backwards => 0,
+        0 => 99,
+        ends => ends.trailing_zeros() as u8,
+    }
+}
+
 impl Antiscenario {
     pub fn new(sheet: &Sheet, number: u64) -> Antiscenario {
         let mut choices = [0; 7];
@@ -34,7 +65,7 @@ impl Antiscenario {
             antiscenario.push(*row);
         }
         for section in 1..=sheet.k {
-            antiscenario.deny(sheet.section(section), choices[section]);
+            antiscenario.deny(sheet.section(0), sheet.section(section), choices[section]);
         }
         antiscenario
     }
@@ -45,7 +76,7 @@ impl Antiscenario {
         self.point_count += usize::from(row.kind <= 5);
     }
 
-    fn deny(&mut self, section: &[Row], mut choice: u64) {
+    fn deny(&mut self, antecedent: &[Row], section: &[Row], mut choice: u64) {
         let mut denied = 0;
         while choice >= section[denied].denials() {
             choice -= section[denied].denials();
@@ -53,7 +84,11 @@ impl Antiscenario {
         }
         let row = section[denied];
         self.bring(&section[..denied], needed(&row));
-        self.push_denial(row, choice == 1);
+        match row.kind {
+            2 => self.push(Row { kind: 9, p: row.q, q: far_end(antecedent, section, &row), ..row }),
+            3 => self.push(Row { kind: 9, p: far_end(antecedent, section, &row), ..row }),
+            _ => self.push_denial(row, choice == 1),
+        }
     }
 
     /// One pass backwards finds the points needed in turn: a row needs only earlier ones.
@@ -70,11 +105,10 @@ impl Antiscenario {
         }
     }
 
+    /// The denial of a row of kinds 6 to 12.
     fn push_denial(&mut self, row: Row, second: bool) {
         let as_kind = |kind| Row { kind, ..row };
         match row.kind {
-            2 => self.push(Row { kind: 9, p: row.q, q: 99, ..row }),
-            3 => self.push(Row { kind: 9, p: 0, ..row }),
             6 if second => self.push(as_kind(8)),
             6 => self.push(Row { p: row.q, q: row.p, ..row }),
             7 => self.push(as_kind(8)),

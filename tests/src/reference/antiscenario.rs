@@ -1,7 +1,9 @@
-//! Document 01: denials with what they bring, and antiscenarios by number; document 02, A1: with both halves of a set.
+//! Document 01: denials with what they bring, and antiscenarios by number; document 02, A1: with both halves of a set, and A8: the denials of a
+//! missing point as short as the table has them.
 use super::blunder::Blunder;
+use super::far_end::far_end;
 use super::rows::points;
-use super::sheet::{is_end, kind::*, Row, Sheet, CLOSE, START};
+use super::sheet::{is_end, kind::*, Row, Sheet, START};
 
 /// The set of all events has it in both halves.
 const TOP: u32 = 4_294_967_295;
@@ -60,14 +62,24 @@ fn free_denials(row: &Row) -> Vec<Vec<Row>> {
     vec![vec![point, if end == START { before(r, s) } else { before(s, r) }]]
 }
 
+/// The row that denies NEXT or LAST: no event of the set stands between q and the far end.
+fn missing(sheet: &Sheet, row: &Row) -> Row {
+    let far = far_end(sheet, row);
+    let (p, q) = if row.kind == NEXT { (row.q, far) } else { (far, row.q) };
+    let b = match sheet.blunder {
+        Blunder::UpperHalfLost if row.kind == NEXT => 0,
+        Blunder::ShortUpperHalfLost if !is_end(far) => 0,
+        _ => row.b,
+    };
+    Row::new(row.section, FREE, p, q, row.a, b)
+}
+
 /// The rows that each denial of a row has after those it brings.
-fn denying_rows(row: &Row, blunder: Blunder) -> Vec<Vec<Row>> {
-    let i = row.section;
+fn denying_rows(sheet: &Sheet, row: &Row) -> Vec<Vec<Row>> {
+    let (i, blunder) = (row.section, sheet.blunder);
     let instead = |kind| vec![vec![Row { kind, ..*row }]];
     match row.kind {
-        NEXT if blunder == Blunder::UpperHalfLost => vec![vec![Row::new(i, FREE, row.q, CLOSE, row.a, 0)]],
-        NEXT => vec![vec![Row::new(i, FREE, row.q, CLOSE, row.a, row.b)]],
-        LAST => vec![vec![Row::new(i, FREE, START, row.q, row.a, row.b)]],
+        NEXT | LAST => vec![vec![missing(sheet, row)]],
         EARLIER | LATER => vec![],
         BEFORE if blunder == Blunder::ReverseOnly => vec![vec![Row::new(i, BEFORE, row.q, row.p, 0, 0)]],
         BEFORE => vec![vec![Row::new(i, BEFORE, row.q, row.p, 0, 0)], vec![Row::new(i, SAME, row.p, row.q, 0, 0)]],
@@ -89,7 +101,7 @@ pub fn denials(sheet: &Sheet, section: u32) -> Vec<Denial> {
     let rows = sheet.section(section);
     let mut denials = Vec::new();
     for (index, row) in rows.iter().enumerate() {
-        for rest in denying_rows(row, sheet.blunder) {
+        for rest in denying_rows(sheet, row) {
             let mut denial = brought_for(index, &rows, sheet.blunder);
             denial.extend(rest);
             denials.push(denial);

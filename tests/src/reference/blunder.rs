@@ -41,8 +41,72 @@ pub enum Blunder {
     LowerLimitPlain,
     /// A9: d − 1 in 32 bits, so that it is 4,294,967,295 where d is 0.
     LessThanZero,
-    /// No blunder: document 01 as it was before A1, with events up to 31 and sets of a alone. WITHIN is A9's.
+    /// A8: asking no order of the antecedent, as document 000 has it printed.
+    NoOrder,
+    /// A8: the order of q and z from the consequent's rows in place of the antecedent's.
+    OrderOfConsequent,
+    /// A8: the order of q and z from the rows of both.
+    OrderOfBoth,
+    /// A8: a chain from p to z by rows of both sections.
+    MixedChain,
+    /// A8: of several z the highest.
+    HighestEnd,
+    /// A8: the lowest z that is reached, in order or not.
+    LowestReached,
+    /// A8: the lowest z that is reached, and where it is not in order the long denial.
+    LowestReachedOrLong,
+    /// A8: q itself as z, with no step wanted from q to q.
+    QToItself,
+    /// A8: z may be q, where the antecedent's rows lead from q back to q.
+    QTaken,
+    /// A8: the chain of LAST from p to z.
+    LastChainReversed,
+    /// A8: the order of LAST from q to z.
+    LastOrderReversed,
+    /// A8: a chain of one step alone.
+    ChainOfOneStep,
+    /// A8: the antecedent's order in one step alone.
+    OrderOfOneStep,
+    /// A8: chains and orders of up to two steps.
+    TwoSteps,
+    /// A8: chains and orders whose rows stand in the sheet in the order of the steps.
+    OnePass,
+    /// A8: a chain of rows after the introducing one alone.
+    ChainOfLaterRows,
+    /// A8: asking no order where q is a point of the consequent.
+    OwnPointInOrder,
+    /// A8: asking an order where q is 0 or 99 too.
+    EndsWantOrder,
+    /// A8: losing the upper half of the set in the short denial.
+    ShortUpperHalfLost,
+    /// No blunder: document 01 as it was before A1, with events up to 31 and sets of a alone. WITHIN is A9's, and denials are A8's.
     BeforeA1,
-    /// No blunder: document 01 as it was before A9, with distances taken as exact. Events, sets and N are those of A1 and A4.
+    /// No blunder: document 01 as it was before A9, with distances taken as exact. Events, sets, N and denials are those of A1, A4 and A8.
     BeforeA9,
+    /// No blunder: document 01 as it was before A8, with the long denial of every missing point. All else is as it is now.
+    BeforeA8,
 }
+
+/// Document 02, A8: its slips, each of which writes some denial otherwise, and the denials as they were.
+pub const IN_FAR_ENDS: [Blunder; 20] = [
+    Blunder::NoOrder,
+    Blunder::OrderOfConsequent,
+    Blunder::OrderOfBoth,
+    Blunder::MixedChain,
+    Blunder::HighestEnd,
+    Blunder::LowestReached,
+    Blunder::LowestReachedOrLong,
+    Blunder::QToItself,
+    Blunder::QTaken,
+    Blunder::LastChainReversed,
+    Blunder::LastOrderReversed,
+    Blunder::ChainOfOneStep,
+    Blunder::OrderOfOneStep,
+    Blunder::TwoSteps,
+    Blunder::OnePass,
+    Blunder::ChainOfLaterRows,
+    Blunder::OwnPointInOrder,
+    Blunder::EndsWantOrder,
+    Blunder::ShortUpperHalfLost,
+    Blunder::BeforeA8,
+];

@@ -7,8 +7,10 @@ use super::operations::{smallest_by_brute_force, verdict, violating, Verdict};
 use super::rows::{matchings, placement_count, points};
 use super::sheet::{self, Row, Sheet};
 use super::weeded;
+use crate::generate::pairs::has_short_denial;
 use crate::generate::{logs, sheets};
 use crate::random::Random;
+use std::collections::BTreeSet;
 
 const MOST_PLACEMENTS: u64 = 4000;
 
@@ -17,7 +19,7 @@ fn few_placements(seed: u64, pairs: usize) -> Vec<(Sheet, Log)> {
     let mut random = Random::new(seed);
     let mut all = Vec::new();
     while all.len() < pairs {
-        let shape = random.pick(&[&sheets::SMALL, &sheets::MIDDLE]);
+        let shape = random.pick(&[&sheets::SMALL, &sheets::MIDDLE, &sheets::CHAINS]);
         let sheet_text = sheets::random(&mut random, shape);
         let most_lines = random.pick(&[6, 6, 60]);
         let log = logs::random(&mut random, most_lines);
@@ -72,6 +74,25 @@ fn fronts_are_reached_by_the_numbers_that_brute_force_finds() {
         let due: Vec<Option<u64>> = (0..cut_down.fronts.len()).map(lowest).collect();
         assert_eq!(cut_down.reaching(&sheet), due);
     }
+}
+
+/// Demand 3 of the reference alone, every placement tried: its matchings, cut down, are the violating placements.
+#[test]
+fn antiscenarios_are_cut_down_to_the_violating_placements() {
+    let few = |(sheet, _): &(Sheet, Log)| (1..=60).contains(&sheet.count);
+    let (mut all, mut short) = (0, 0);
+    for (sheet, log) in few_placements(15, 3000).into_iter().filter(few) {
+        let kept = points(&sheet.section(0)).len();
+        let numbers = (1..=sheet.count).map(|m| antiscenario(&sheet, m));
+        let rows: Vec<Vec<Row>> = numbers.filter(|rows| placement_count(&log, points(rows).len(), 10_000) < 10_000).collect();
+        if rows.len() as u64 == sheet.count {
+            let found = rows.iter().flat_map(|rows| matchings(rows, &log));
+            let cut: BTreeSet<Vec<u32>> = found.map(|positions| positions[..kept].to_vec()).collect();
+            assert_eq!(cut.into_iter().collect::<Vec<_>>(), violating(&sheet, &log));
+            (all, short) = (all + 1, short + u64::from(has_short_denial(&sheet)));
+        }
+    }
+    assert!(10 * short > all && all > 1000, "{short} of {all}");
 }
 
 /// The first row of a consequent up to which no matching has this front, numbered over the whole sheet.

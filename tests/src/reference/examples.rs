@@ -62,6 +62,17 @@ fn before_is_denied_by_same_too() {
     assert_eq!(opened.search(2, 2), Ok(Some(vec![1, 1])));
 }
 
+/// Document 02, A8: with the antecedent's order, and without it.
+#[test]
+fn next_is_denied_up_to_an_antecedent_point() {
+    let points = [Row::new(0, 1, 1, 0, 2, 0), Row::new(0, 1, 2, 0, 8, 0)];
+    let (order, chain) = (Row::new(0, 6, 1, 2, 0, 0), [Row::new(1, 2, 11, 1, 4, 1), Row::new(1, 6, 11, 2, 0, 0)]);
+    for (order, far) in [(&[order][..], 2), (&[], 99)] {
+        let written = pair(&sheet::text(1, &[&points, order, &chain].concat()), &[]).write(1, 3437);
+        assert_eq!(written, Ok(sheet::text(1, &[&points, order, &[Row::new(1, 9, 1, far, 4, 1)]].concat())));
+    }
+}
+
 #[test]
 fn largest_counts() {
     let denials = |counts: [usize; 6]| {

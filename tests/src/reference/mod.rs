@@ -3,6 +3,7 @@ pub mod antiscenario;
 pub mod blunder;
 pub mod columns;
 pub mod cut;
+pub mod far_end;
 pub mod log;
 pub mod operations;
 pub mod refusal;

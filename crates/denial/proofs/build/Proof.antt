@@ -72,7 +72,7 @@ loop-again c =
     let t = total-step (a .rows .now) (a .n) (l .s) (a .k) (turn .loop-test .taken) (l .total) w (l .inv .4) (denials turn) (l .inv .3) in
     let h = total-low (a .rows .now) (a .n) (l .s) (a .k) (turn .loop-test .taken) (l .total) w (l .inv .4) (denials turn) (l .inv .3) in
     let d = section-done (a .rows .now) (a .n) (l .s) (a .k) (turn .loop-test .taken) (l .left) (l .total / w) (l .at) (deny .result) (l .out) _ t (deny .ensures .0) (deny .ensures .1) in
-    (search needs, search needs, omega (arith, l .inv .2, deny .ensures .0, start .pre .1, denial-short (a .rows .now) (l .s + 1) (a .n) 0 (l .left / (l .total / w))), h, t, d .0 ∙ l .inv .5, d .1 ∙ l .inv .6)
+    (search needs, search needs, omega (arith, l .inv .2, deny .ensures .0, start .pre .1, denial-short (a .rows .now) (a .n) (l .s + 1) (a .n) 0 (l .left / (l .total / w))), h, t, d .0 ∙ l .inv .5, d .1 ∙ l .inv .6)
 
 returns : tie.Need-returns Inv-loop μ-loop
 returns c =

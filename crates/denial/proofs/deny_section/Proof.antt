@@ -11,7 +11,7 @@ use Rattle.denial.proofs.deny_section.Statement.{statement}
 use Rattle.denial.proofs.deny_section.Tie as tie
 
 abbrev Inv-loop : tie.InvT-loop
-Inv-loop rows n section j out₀ at from i₀ left₀ out i left = (i ≤ n) × (out ≡ out₀) × (denialFrom rows section i (n - i) left ≡ denialFrom rows section 0 n j)
+Inv-loop rows n section j out₀ at from i₀ left₀ out i left = (i ≤ n) × (out ≡ out₀) × (denialFrom rows n section i (n - i) left ≡ denialFrom rows n section 0 n j)
 
 abbrev μ-loop : tie.MeasureT-loop
 μ-loop rows n section j out₀ at from i₀ left₀ out i left = n - i
@@ -27,7 +27,7 @@ deny-row-requires c κs =
     let start = c .before .before .before .before .before .before .before .before in
     let a = start .args in
     let own = counts _ _ _ h .0 in
-    (search needs, search needs, search needs, omega (arith, own, start .pre), counts-own _ _ _ h, λ k b e. c .before .before .before .before .before .first-of .ensures .1 k b (e ∙ own))
+    (search needs, search needs, search needs, search needs, omega (arith, own, start .pre), counts-own _ _ _ h, λ k b e. c .before .before .before .before .before .first-of .ensures .1 k b (e ∙ own))
 
 same-length : tie.Need-same-length Inv-loop μ-loop
 same-length c = let h = ap length (c .before .before .before .before .before .before .before .loop .inv .1) in search needs

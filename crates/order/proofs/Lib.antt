@@ -1,0 +1,4 @@
+pub mod Sets
+pub mod Entering
+pub mod Ending
+pub mod Places
