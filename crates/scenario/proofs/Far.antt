@@ -101,28 +101,34 @@ under w x y h (down a b) = absurd (omega arith)
 -- Over an antecedent that is met.
 module _ (run : Run) (e : Env) (F : Fixed run e) (antecedent : List Row) (o : All (Met run e) antecedent) where
   -- its points are on lines
-  antecedent-on : (m : ℕ) → T (elem m (points antecedent)) → IsLine run (e m)
+  pub antecedent-on : (m : ℕ) → T (elem m (points antecedent)) → IsLine run (e m)
   antecedent-on m t =
       elem-at (λ (p : ℕ). IsLine run (e p)) m (points antecedent) t (all-points (λ (p : ℕ). IsLine run (e p)) antecedent (all-map (λ k v. v .1) antecedent o))
 
   -- its order has z after q, or before it
+  pub after-q : (c : List Row) (p q z : ℕ) → T (elem z (points antecedent)) → T (ends-next antecedent c p q z) → e q < e z
+  after-q c p q z i t =
+      ⊎-elim (λ s. omega (arith, ap e (eqb→eq q 0 s), F .start, antecedent-on z i)) (λ s. ascends-lower run e antecedent o q z s)
+      (end-tests (ascends c p) (ascends antecedent q) q 0 z t .2)
+
+  pub before-q : (c : List Row) (p q z : ℕ) → T (elem z (points antecedent)) → T (ends-last antecedent c p q z) → e z < e q
+  before-q c p q z i t =
+      ⊎-elim (λ s. omega (arith, ap e (eqb→eq q 99 s), F .close, antecedent-on z i)) (λ s. ascends-lower run e antecedent o z q s)
+      (end-tests (λ z. ascends c z p) (λ z. ascends antecedent z q) q 99 z t .2)
+
   pub far-end-on-its-side : (c : List Row) (k : Row) → OnItsSide run e (far-end antecedent c k) k
   unfolding far-end
   far-end-on-its-side c (point p s) = tt
   far-end-on-its-side c (next p q s) =
       first-or-has (λ z. (x : ℕ) → IsLine run x → Between (e q) (e z) x → e q < x) 99 (ends-next antecedent c p q) to-close (points antecedent)
-      (λ z i t x l. above (e q) x (e z)
-      (⊎-elim (λ s. omega (arith, ap e (eqb→eq q 0 s), F .start, antecedent-on z i)) (λ s. ascends-lower run e antecedent o q z s)
-      (end-tests (ascends c p) (ascends antecedent q) q 0 z t .2)))
+      (λ z i t x l. above (e q) x (e z) (after-q c p q z i t))
     where
       to-close : (x : ℕ) → IsLine run x → Between (e q) (e 99) x → e q < x
       to-close x l (up a b) = a
       to-close x l (down a b) = absurd (omega (arith, F .close))
   far-end-on-its-side c (last p q s) =
       first-or-has (λ z. (x : ℕ) → IsLine run x → Between (e z) (e q) x → x < e q) 0 (ends-last antecedent c p q) from-start (points antecedent)
-      (λ z i t x l. under (e z) x (e q)
-      (⊎-elim (λ s. omega (arith, ap e (eqb→eq q 99 s), F .close, antecedent-on z i)) (λ s. ascends-lower run e antecedent o z q s)
-      (end-tests (λ z. ascends c z p) (λ z. ascends antecedent z q) q 99 z t .2)))
+      (λ z i t x l. under (e z) x (e q) (before-q c p q z i t))
     where
       from-start : (x : ℕ) → IsLine run x → Between (e 0) (e q) x → x < e q
       from-start x l (up a b) = b

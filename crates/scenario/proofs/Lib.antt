@@ -11,6 +11,7 @@ pub mod Glue
 pub mod Place
 -- Demand 3 of sound sheets, and the check's rows at fault.
 pub mod Agreement
+pub mod Alike
 pub mod Long
 pub mod Extension
 pub mod Faults
@@ -29,6 +30,7 @@ pub mod Closure
 pub mod Taken
 pub mod InOrder
 pub mod Patterns
+pub mod Shorter
 pub mod Unique
 pub mod Prefix
 pub mod Numbers

@@ -1,58 +1,38 @@
 -- With the long denials of a missing point in their place (document 02, A8): N and each consequent's share of it stay, and so do the violating placements.
 -- Assumes nothing.
-use mathlib.Core.Path.{_≡_, refl, sym, _∙_, ap₂, subst}
+use mathlib.Core.Path.{_≡_, refl, sym, ap₂, subst}
 use mathlib.Core.Logic.{_↔_}
-use mathlib.Core.List.{List, [], _∷_, _++_, map}
-use Prim.Native.Nat.{ℕ, suc, _+_, _*_, _≤_}
-use lib.ListN.{length, length-append, length-map}
-use Rattle.scenario.specs.Rows.{Row, point, next, last, earlier, later, before, apart, same, free, within, outside, event, Run, needs, closure, far-end, denying-rows, denials}
+use mathlib.Core.List.{List, [], _∷_, map}
+use Prim.Native.Nat.{ℕ, _≤_}
+use lib.ListN.{length}
+use Rattle.scenario.specs.Rows.{Row, Run, far-end}
 use Rattle.scenario.specs.Sheet.{Sheet, Violating, choices, total, count}
 use Rattle.scenario.specs.Long.{long-end, antiscenario-long, DeniedLong}
 use Rattle.scenario.proofs.Rules.{Laws}
 use Rattle.scenario.proofs.Far.{FarEnds, long-ends}
+use Rattle.scenario.proofs.Alike.{Alike, alike-length, choices-alike, total-alike}
 use Rattle.scenario.proofs.Agreement.{Base, is-start, is-close, Sound, to-number, from-number}
 
--- A row has as many denials, whatever its far end is; so have a consequent and a sheet.
-as-many : (far far' r : ℕ) (row : Row) → length (denying-rows far r row) ≡ length (denying-rows far' r row)
-unfolding denying-rows
-as-many far far' r (point p s) = refl
-as-many far far' r (next p q s) = refl
-as-many far far' r (last p q s) = refl
-as-many far far' r (earlier p q a) = refl
-as-many far far' r (later p q a) = refl
-as-many far far' r (before p q) = refl
-as-many far far' r (apart p q) = refl
-as-many far far' r (same p q) = refl
-as-many far far' r (free p q s) = refl
-as-many far far' r (within p q lo hi) = refl
-as-many far far' r (outside p q lo hi) = refl
-as-many far far' r (event p s) = refl
+-- A row has as many denials, whatever its far end is, and so have a consequent and a sheet.
+module _ (sheet : Sheet) where
+  as-many : Alike (Alike (Alike (λ (x y : Row). Unit {0}))) (choices long-end 1 (sheet .consequents)) (choices (far-end (sheet .antecedent)) 1 (sheet .consequents))
+  as-many = choices-alike (λ (x y : Row). Unit {0}) (λ row. tt) (sheet .antecedent) (λ c p q s. tt) (λ c p q s. tt) 1 (sheet .consequents)
 
-as-many-rows : (far far' : Row → ℕ) (r : ℕ) (passed rows : List Row) → length (denials far r passed rows) ≡ length (denials far' r passed rows)
-unfolding denials
-as-many-rows far far' r passed [] = refl
-as-many-rows far far' r passed (row ∷ rows) =
-    let after : List Row → List Row = λ d. closure passed (needs row) ++ d in
-    let own = denying-rows (far row) r row in
-    let own' = denying-rows (far' row) r row in
-    length-append (map after own) (denials far r (row ∷ passed) rows)
-    ∙ ap₂ _+_ (length-map own after ∙ as-many (far row) (far' row) r row ∙ sym (length-map own' after)) (as-many-rows far far' r (row ∷ passed) rows)
-    ∙ sym (length-append (map after own') (denials far' r (row ∷ passed) rows))
+  -- each consequent has its share of N, so that a number makes the same choices
+  pub same-shares : map length (choices long-end 1 (sheet .consequents)) ≡ map length (choices (far-end (sheet .antecedent)) 1 (sheet .consequents))
+  same-shares = shares (choices long-end 1 (sheet .consequents)) (choices (far-end (sheet .antecedent)) 1 (sheet .consequents)) as-many
+    where
+      shares : (ls ms : List (List (List Row))) → Alike (Alike (Alike (λ (x y : Row). Unit {0}))) ls ms → map length ls ≡ map length ms
+      shares [] [] a = refl
+      shares [] (m ∷ ms) a = absurd a
+      shares (l ∷ ls) [] a = absurd a
+      shares (l ∷ ls) (m ∷ ms) a = ap₂ (λ (n : ℕ) (ns : List ℕ). n ∷ ns) (alike-length (Alike (λ (x y : Row). Unit {0})) l m (a .0)) (shares ls ms (a .1))
 
--- "N, numbers": each consequent has its share of N, so a number makes the same choices.
-pub same-shares : (far far' : (consequent : List Row) → Row → ℕ) (i : ℕ) (cs : List (List Row)) → map length (choices far i cs) ≡ map length (choices far' i cs)
-unfolding choices
-same-shares far far' i [] = refl
-same-shares far far' i (c ∷ cs) = ap₂ (λ (n : ℕ) (ns : List ℕ). n ∷ ns) (as-many-rows (far c) (far' c) (10 * i + 9) [] c) (same-shares far far' (suc i) cs)
-
-pub same-total : (far far' : (consequent : List Row) → Row → ℕ) (i : ℕ) (cs : List (List Row)) → total (choices far i cs) ≡ total (choices far' i cs)
-unfolding choices total
-same-total far far' i [] = refl
-same-total far far' i (c ∷ cs) = ap₂ _*_ (as-many-rows (far c) (far' c) (10 * i + 9) [] c) (same-total far far' (suc i) cs)
-
-pub count-long : (sheet : Sheet) → total (choices long-end 1 (sheet .consequents)) ≡ count sheet
-unfolding count
-count-long sheet = same-total long-end (far-end (sheet .antecedent)) 1 (sheet .consequents)
+  pub count-long : total (choices long-end 1 (sheet .consequents)) ≡ count sheet
+  unfolding count
+  count-long =
+      total-alike (λ (x y : Row). Unit {0}) (λ row. tt) (sheet .antecedent) (λ c p q s. tt) (λ c p q s. tt) (choices long-end 1 (sheet .consequents))
+      (choices (far-end (sheet .antecedent)) 1 (sheet .consequents)) as-many
 
 -- "Violating placements and verdicts come out unchanged": with the long denials the matchings, cut down, are the violating placements too, and so the same set.
 module _ (run : Run) (L : Laws run) (sheet : Sheet) (S : Sound sheet) (xs : List ℕ) where

@@ -9,6 +9,8 @@ use lib.Dec.{T}
 use Rattle.scenario.specs.Sheet.{matching, cut, antiscenario, Violating, no-larger}
 use Rattle.scenario.specs.Long.{antiscenario-long, DeniedLong}
 use Rattle.scenario.proofs.Long.{count-long}
+use Rattle.scenario.proofs.Alike.{same-points}
+use Rattle.scenario.proofs.Shorter.{found-where-long}
 use Rattle.scenario.proofs.Final.{long-denials}
 use Rattle.sheet.specs.Reading.{countIn, sheetIn}
 use Rattle.sheet.proofs.Theorems.{accepted-sheet}
@@ -40,6 +42,8 @@ module _ (s l : List ℕ) (A : Accepted s l) where
   pub same-as-long : SameAsLong s l (checkOf s l)
   same-as-long = record {
     count = N s l A ∙ sym (count-long (sheetIn s));
+    points = λ m. sym (same-points (sheetIn s) m);
+    found = λ m a b. found-where-long (logOf l) (low s l A) (sheetIn s) (accepted-sheet s (A .sheet) .read) m a (omega (arith, N s l A));
     placements = placements;
     holds = (
       λ e m a b zs t. let d = placements (cut (sheetIn s) zs) .1 (to-long m a b zs t) in demand .holds .0 e (d .number) (d .low) (d .high) (d .place) (d .over .matches),

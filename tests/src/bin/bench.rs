@@ -181,6 +181,10 @@ fn alone() {
     };
     tell("read a log", &mut || keep(Host.read_log(black_box(&mixed))));
     tell("read 19 rows", &mut || keep(Host.read_sheet(black_box(&many_antiscenarios()))));
+    let (many, buffer) = (many_antiscenarios(), RefCell::new([0; 3437]));
+    let write_all =
+        &mut || (1..=4096).for_each(|number| keep(Host.write_into(black_box(&many), number, &mut *buffer.borrow_mut())));
+    tell("write all of N = 4,096", write_all);
     for number in 1..=4 {
         let search = &mut || keep(Host.search_into(&sheet_s(), black_box(&mixed), number, &mut *places.borrow_mut()));
         tell(&format!("search S, number {number}"), search);
