@@ -9,7 +9,7 @@ pub mod Far
 pub mod Product
 pub mod Glue
 pub mod Place
--- Demand 3 of sound sheets, and the check's rows at fault.
+-- Demand 3 of sound sheets, with short denials and with long ones, and the check's rows at fault.
 pub mod Agreement
 pub mod Alike
 pub mod Long
@@ -23,7 +23,7 @@ pub mod Halves
 pub mod Logs
 pub mod Reading
 pub mod Final
--- What stands beside: what the clock drops, denials, patterns, at most one extension, a search's steps, rows and numbers, old sheets, and the paper's examples.
+-- What stands beside: what the clock drops, denials and their far ends, patterns, at most one extension, a search's steps, rows and numbers, old sheets, and the paper's examples.
 pub mod Clock
 pub mod Unmoved
 pub mod Closure
