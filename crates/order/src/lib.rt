@@ -11,6 +11,9 @@ ghost use Rattle.order.specs.Ending.{antecedent-points, mayEnd, InOrder,
 // Places for the points that the rows of one section may use.
 const PLACES: usize = 20;
 
+// A set with every place there is.
+const EVERYWHERE: u32 = 4294967295;
+
 // Kinds of row.
 const NEXT: u32 = 2;
 
@@ -106,9 +109,6 @@ fn led_to(rows: &[u32], n: usize, section: u32, upward: bool, point: u32) -> u32
     }
     table[place(point) as usize]
 }
-
-// Every place there is.
-const EVERYWHERE: u32 = 4294967295;
 
 // Whether an antecedent point may be the far end: both sets have it, and it is not q.
 fn may_end(beyond: u32, ordered: u32, q: u32, z: u32) -> bool
