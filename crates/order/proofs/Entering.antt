@@ -14,7 +14,7 @@ use Rattle.scenario.specs.Log.{inSet}
 use Rattle.row.specs.declared.Line.{Line}
 use Rattle.row.specs.Memory.{lineIn}
 use Rattle.order.specs.Leading.{places, told, Tells, Onward, entered, place, linkOf, linksIn, Led}
-use Rattle.order.proofs.Sets.{inSet-or}
+use Rattle.scenario.proofs.Sets.{inSet-or}
 
 or-none : (b : Bool) → b ≡ b || false
 or-none true = refl

@@ -50,7 +50,7 @@ pub fn at(positions: &[u32], p: u32) -> u32
 }
 
 // "The set is a + 2^32 × b."
-fn set_of(a: u32, b: u32) -> u64
+pub fn set_of(a: u32, b: u32) -> u64
     ensures { λ r. ⌜ r ≡ setOf a b ⌝ }
 {
     a as u64 + UPPER_ONE * b as u64

@@ -5,5 +5,6 @@ pub mod Matchings
 pub mod Turn
 pub mod Following
 pub mod Jump
+pub mod Blame
 pub mod Onward
 pub mod Starting

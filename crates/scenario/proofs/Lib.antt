@@ -21,6 +21,7 @@ pub mod Whole
 -- Sheets and logs that are read.
 pub mod Halves
 pub mod Logs
+pub mod Sets
 pub mod Reading
 pub mod Final
 -- What stands beside: what the clock drops, denials and their far ends, patterns, at most one extension, a search's steps, rows and numbers, old sheets, and the paper's examples.

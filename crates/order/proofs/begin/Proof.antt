@@ -6,7 +6,8 @@ use native.Mathlib.Omega.{arith}
 use lib.ListN.{length, getD, length-set}
 use Rattle.scenario.specs.Log.{inSet}
 use Rattle.row.proofs.Memory.{filled-more}
-use Rattle.order.proofs.Sets.{inSet-one, doubled, small}
+use Rattle.scenario.proofs.Sets.{inSet-one}
+use Rattle.order.proofs.Sets.{doubled, small}
 use borrow.Author.Needs.{needs}
 use Rattle.order.proofs.begin.Statement.{statement}
 use Rattle.order.proofs.begin.Tie as tie
