@@ -5,11 +5,13 @@ pub mod columns;
 pub mod log;
 pub mod search;
 pub mod sheet;
+pub mod tried;
 
 use crate::outcome::*;
 use antiscenario::Antiscenario;
 use check::Violation;
 use log::Log;
+use search::{Positions, Visitor};
 use sheet::Sheet;
 
 const NUMBER: u32 = 31;
@@ -43,12 +45,23 @@ pub fn write(sheet: &[u8], number: u64, buffer: &mut [u8]) -> Result<usize, u32>
 
 /// How many places were filled, or none.
 pub fn search(sheet: &[u8], log: &[u8], number: u64, places: &mut [u32]) -> Result<Option<usize>, u32> {
+    search_by(sheet, log, number, places, &mut |_: &Positions| true)
+}
+
+/// The same by a visitor that ends at the first matching.
+pub fn search_by(
+    sheet: &[u8],
+    log: &[u8],
+    number: u64,
+    places: &mut [u32],
+    visitor: &mut impl Visitor,
+) -> Result<Option<usize>, u32> {
     let (sheet, log) = (read_sheet(sheet)?, read_log(log)?);
     let antiscenario = numbered(&sheet, number)?;
     if places.len() < antiscenario.point_count {
         return Err(PLACES);
     }
-    Ok(search::smallest(&antiscenario, &log, places))
+    Ok(search::smallest(&antiscenario, &log, places, visitor))
 }
 
 pub fn judge(sheet: &[u8], log: &[u8], number: u64, positions: &[u32], count: usize) -> Result<bool, u32> {
