@@ -1,12 +1,16 @@
-//! The proved code through the C interface beside plain Rust, in one run, as ratios: bench [check | worst | alone | once ours|plain check|NUMBER | logs FOLDER].
+//! The proved code through the C interface beside plain Rust, in one run, as ratios: bench [check | worst | alone | counts | once ours|plain
+//! check|NUMBER|CASE | logs FOLDER].
+use satskhubo_tests::generate::cases::{case_of, cases, Case};
 use satskhubo_tests::generate::logs::{log_of, mixed, uniform};
-use satskhubo_tests::generate::sheets::sheet_s;
+use satskhubo_tests::generate::sheets::{sheet_of, sheet_s};
 use satskhubo_tests::host::Host;
 use satskhubo_tests::outcome::Side;
 use satskhubo_tests::plain;
-use satskhubo_tests::reference::sheet::{self, kind::*, Row};
+use satskhubo_tests::plain::tried::Tried;
+use satskhubo_tests::reference::sheet::kind::*;
 use std::cell::RefCell;
 use std::hint::black_box;
+use std::ops::RangeInclusive;
 
 const SIZES: [u32; 4] = [500, 1000, 2000, 4000];
 const REPEATS: usize = 15;
@@ -15,6 +19,8 @@ const REPEAT: f64 = 0.005;
 /// Work longer than this is measured once.
 const LONG: f64 = 0.5;
 const THREAD_TIME: i32 = 3;
+/// Up to so many positions tried are counted.
+const MOST_TRIED: u64 = 2_000_000_000;
 
 #[repr(C)]
 struct Timespec {
@@ -107,11 +113,6 @@ fn spelled(seconds: f64) -> String {
     }
 }
 
-fn sheet_text(k: u32, rows: &[[u32; 6]]) -> Vec<u8> {
-    let rows: Vec<Row> = rows.iter().map(|f| Row::new(f[0], f[1], f[2], f[3], f[4], f[5])).collect();
-    sheet::text(k, &rows)
-}
-
 /// Six consequents of four denials each, that jump to the next correction: N = 4,096.
 fn many_antiscenarios() -> Vec<u8> {
     let mut rows = vec![[0, POINT, 1, 0, 8, 0]];
@@ -121,24 +122,18 @@ fn many_antiscenarios() -> Vec<u8> {
         rows.push([section, WITHIN, p, 1, 0, 500]);
         rows.push([section, FREE, p, 1, 2, 0]);
     }
-    sheet_text(6, &rows)
-}
-
-/// Four points with set 8 and rows that no placement meets.
-fn timed_case() -> Vec<u8> {
-    let points = [1, 2, 3, 4].map(|p| [0, POINT, p, 0, 8, 0]);
-    sheet_text(0, &[&points[..], &[[0, BEFORE, 1, 2, 0, 0], [0, BEFORE, 2, 1, 0, 0]]].concat())
+    sheet_of(6, &rows)
 }
 
 /// Two points with set 8 and a consequent NEXT 11 after 1.
 fn standing_measure() -> Vec<u8> {
-    sheet_text(1, &[[0, POINT, 1, 0, 8, 0], [0, POINT, 2, 0, 8, 0], [1, NEXT, 11, 1, 8, 0]])
+    sheet_of(1, &[[0, POINT, 1, 0, 8, 0], [0, POINT, 2, 0, 8, 0], [1, NEXT, 11, 1, 8, 0]])
 }
 
 /// Document 02, A8: after each injection a correction comes before any scan. Number 1 denies NEXT, up to the scan.
 fn correction_between() -> Vec<u8> {
     let antecedent = [[0, POINT, 1, 0, 2, 0], [0, POINT, 2, 0, 8, 0], [0, BEFORE, 1, 2, 0, 0]];
-    sheet_text(1, &[&antecedent[..], &[[1, NEXT, 11, 1, 4, 0], [1, BEFORE, 11, 2, 0, 0]]].concat())
+    sheet_of(1, &[&antecedent[..], &[[1, NEXT, 11, 1, 4, 0], [1, BEFORE, 11, 2, 0, 0]]].concat())
 }
 
 /// Injections and scans by turns, the only correction in the last line; and the same with a correction between them.
@@ -155,7 +150,7 @@ fn injections(n: u32, is_kept: bool) -> Vec<u8> {
 
 /// Two points with set 8, and a consequent about what stands around or between them.
 fn two_points(consequent: [u32; 6]) -> Vec<u8> {
-    sheet_text(1, &[[0, POINT, 1, 0, 8, 0], [0, POINT, 2, 0, 8, 0], consequent])
+    sheet_of(1, &[[0, POINT, 1, 0, 8, 0], [0, POINT, 2, 0, 8, 0], consequent])
 }
 
 /// Scans, but for one event 2 in the first or in the last line.
@@ -189,7 +184,10 @@ fn alone() {
         let search = &mut || keep(Host.search_into(&sheet_s(), black_box(&mixed), number, &mut *places.borrow_mut()));
         tell(&format!("search S, number {number}"), search);
     }
-    tell("timed case: none", &mut || keep(Host.search_into(&timed_case(), black_box(&scans), 1, &mut *places.borrow_mut())));
+    // Those that are not long without giving up.
+    for Case { name, sheet, .. } in ["timed", "denied"].into_iter().filter_map(case_of) {
+        tell(name, &mut || keep(Host.search_into(&sheet, black_box(&scans), 1, &mut *places.borrow_mut())));
+    }
     for (name, is_kept) in [("correction between: broken", false), ("correction between: kept", true)] {
         let log = injections(4000, is_kept);
         tell(name, &mut || keep(Host.search_into(&correction_between(), black_box(&log), 1, &mut *places.borrow_mut())));
@@ -225,16 +223,16 @@ fn write_all() {
 }
 
 /// The search of these numbers, one after another, on logs of each size.
-fn search(name: &str, sheet: &[u8], numbers: &[u64], log: fn(u32) -> Vec<u8>) {
+fn search(name: &str, sheet: &[u8], numbers: RangeInclusive<u64>, log: impl Fn(u32) -> Vec<u8>) {
     let mut table = Table::new();
     let places = RefCell::new([0; 58]);
     for n in SIZES {
         let log = log(n);
         let search_ours = |number: u64| Host.search_into(sheet, black_box(&log), number, &mut *places.borrow_mut());
         let search_plain = |number: u64| plain::search(sheet, black_box(&log), number, &mut *places.borrow_mut());
-        assert_eq!(search_ours(numbers[0]), (0, search_plain(numbers[0]).expect("accepted").is_some()));
-        let all_ours = || numbers.iter().for_each(|&number| keep(search_ours(number)));
-        let all_plain = || numbers.iter().for_each(|&number| keep(search_plain(number)));
+        assert_eq!(search_ours(*numbers.start()), (0, search_plain(*numbers.start()).expect("accepted").is_some()));
+        let all_ours = || numbers.clone().for_each(|number| keep(search_ours(number)));
+        let all_plain = || numbers.clone().for_each(|number| keep(search_plain(number)));
         table.line(name, n, both(all_ours, all_plain));
     }
 }
@@ -258,20 +256,51 @@ fn scans_text(n: u32) -> Vec<u8> {
     uniform(n, 3).text()
 }
 
-fn search_many() {
-    let numbers: Vec<u64> = (1..=4096).collect();
-    search("search all of N = 4,096", &many_antiscenarios(), &numbers, mixed_text);
+/// One run of one side on 4,000 lines, for counting its instructions: the check of S on mixed lines, the search of one of its numbers, or a case.
+fn once(side: &str, what: &str) {
+    let (sheet, log, numbers) = match (case_of(what), what.parse::<u64>()) {
+        (Some(case), _) => (case.sheet, (case.log)(4000).text(), case.numbers),
+        (_, Ok(number)) => (sheet_s(), mixed_text(4000), number..=number),
+        _ if side == "ours" => return keep(Host.check_number(&sheet_s(), &mixed_text(4000))),
+        _ => return keep(plain::check(&sheet_s(), &mixed_text(4000))),
+    };
+    let mut places = [0; 58];
+    for number in numbers {
+        match side {
+            "ours" => keep(Host.search_into(&sheet, &log, number, &mut places)),
+            _ => keep(plain::search(&sheet, &log, number, &mut places)),
+        }
+    }
 }
 
-/// One run of one side on S and 4,000 mixed lines, for counting its instructions: the check, or the search of a number.
-fn once(side: &str, what: &str) {
-    let (sheet, log) = (sheet_s(), mixed_text(4000));
-    let mut places = [0; 58];
-    match (side, what.parse::<u64>()) {
-        ("ours", Ok(number)) => keep(Host.search_into(&sheet, &log, number, &mut places)),
-        ("ours", _) => keep(Host.check_number(&sheet, &log)),
-        (_, Ok(number)) => keep(plain::search(&sheet, &log, number, &mut places)),
-        _ => keep(plain::check(&sheet, &log)),
+/// The positions that plain Rust tries in all searches of a case.
+fn tried<const GIVES_UP: bool>(case: &Case, n: u32) -> String {
+    let log = (case.log)(n).text();
+    let mut tried = Tried::<GIVES_UP>::up_to(MOST_TRIED);
+    for number in case.numbers.clone() {
+        plain::search_by(&case.sheet, &log, number, &mut [0; 58], &mut tried).expect("accepted");
+        if tried.is_over() {
+            return format!("over {}", in_thousands(MOST_TRIED));
+        }
+    }
+    in_thousands(tried.count)
+}
+
+/// With a comma before each three digits.
+fn in_thousands(number: u64) -> String {
+    match number {
+        0..=999 => number.to_string(),
+        _ => format!("{},{:03}", in_thousands(number / 1000), number % 1000),
+    }
+}
+
+/// Document 02, A2: before it, and with what cannot help given up.
+fn counts() {
+    println!("{:<34} {:>6} {:>19} {:>19}", "positions tried", "lines", "before", "after");
+    for case in cases() {
+        for n in SIZES {
+            println!("{:<34} {n:>6} {:>19} {:>19}", case.name, tried::<false>(&case, n), tried::<true>(&case, n));
+        }
     }
 }
 
@@ -298,6 +327,9 @@ fn main() {
     if word == "alone" {
         return alone();
     }
+    if word == "counts" {
+        return counts();
+    }
     Table::heading();
     if word == "worst" {
         return worst_cases();
@@ -310,10 +342,12 @@ fn main() {
     read_sheets();
     write_all();
     for number in 1..=4 {
-        search(&format!("search S, number {number}"), &sheet_s(), &[number], mixed_text);
+        search(&format!("search S, number {number}"), &sheet_s(), number..=number, mixed_text);
     }
-    search_many();
-    search("timed case: none", &timed_case(), &[1], scans_text);
+    search("search all of N = 4,096", &many_antiscenarios(), 1..=4096, mixed_text);
+    for case in cases() {
+        search(case.name, &case.sheet, case.numbers, |n| (case.log)(n).text());
+    }
     check("check S", &sheet_s(), mixed_text);
     check("standing measure", &standing_measure(), scans_text);
 }

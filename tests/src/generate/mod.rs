@@ -1,5 +1,6 @@
 //! Sheets and logs for the tests: random, enumerated, damaged at random, and damaged for each refusal.
 pub mod arguments;
+pub mod cases;
 pub mod chains;
 pub mod damage;
 pub mod families;

@@ -101,6 +101,12 @@ pub const CHAINS: Shape = Shape {
     leading: 10,
 };
 
+/// The text of a sheet whose rows are given by their fields.
+pub fn sheet_of(k: u32, rows: &[[u32; 6]]) -> Vec<u8> {
+    let rows: Vec<Row> = rows.iter().map(|f| Row::new(f[0], f[1], f[2], f[3], f[4], f[5])).collect();
+    sheet::text(k, &rows)
+}
+
 /// Sheet S of document 01.
 pub fn sheet_s() -> Vec<u8> {
     let rows = [

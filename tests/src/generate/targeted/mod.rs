@@ -3,7 +3,7 @@ pub mod faults;
 mod logs;
 mod sheets;
 
-use crate::reference::sheet::{self, Row};
+use crate::generate::sheets::sheet_of;
 pub use logs::logs;
 pub use sheets::{all_before, counted, fullest, sheets, with_denials};
 
@@ -22,11 +22,6 @@ const LOG_FIRST: usize = 28;
 const LINE: usize = 15;
 
 type Fields = [u32; 6];
-
-fn sheet_of(k: u32, rows: &[Fields]) -> Vec<u8> {
-    let rows: Vec<Row> = rows.iter().map(|f| Row::new(f[0], f[1], f[2], f[3], f[4], f[5])).collect();
-    sheet::text(k, &rows)
-}
 
 fn replaced(text: &[u8], at: usize, bytes: &[u8]) -> Vec<u8> {
     let mut text = text.to_vec();
