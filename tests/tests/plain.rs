@@ -1,7 +1,7 @@
 //! The yardstick of the benchmarks answers as the reference does.
 mod common;
 use satskhubo_tests::compare::compare;
-use satskhubo_tests::generate::pairs::large_pair_of;
+use satskhubo_tests::generate::pairs::{independent_pair_of, large_pair_of};
 use satskhubo_tests::plain::Plain;
 
 #[test]
@@ -13,4 +13,10 @@ fn plain_rust_answers_as_the_reference() {
 fn plain_rust_answers_as_the_reference_on_large_sheets() {
     let tally = (5000..5300).map(|seed| common::tallied(compare(&Plain, &large_pair_of(seed), seed, 6))).sum();
     common::tell_tally("plain: large sheets", tally);
+}
+
+#[test]
+fn plain_rust_answers_as_the_reference_on_independent_consequents() {
+    let tally = (5000..7000).map(|seed| common::tallied(compare(&Plain, &independent_pair_of(seed), seed, 8))).sum();
+    common::tell_tally("plain: independent consequents", tally);
 }

@@ -141,6 +141,13 @@ pub fn chained_pair_of(seed: u64) -> Pair {
     Pair { sheet: sheet_for(&mut random, &sheets::CHAINS, wanted, &log), log: log.text() }
 }
 
+/// Document 02, A2: an accepted sheet whose consequents each speak of few of the antecedent's points, and a short log.
+pub fn independent_pair_of(seed: u64) -> Pair {
+    let mut random = Random::new(seed);
+    let log = logs::random(&mut random, 6);
+    Pair { sheet: sheet_for(&mut random, &sheets::INDEPENDENT, Wanted::AntecedentMatched, &log), log: log.text() }
+}
+
 /// An accepted sheet of few antiscenarios, and a log of hundreds or thousands of lines.
 pub fn long_pair_of(seed: u64) -> Pair {
     let mut random = Random::new(seed);

@@ -16,6 +16,8 @@ pub struct Shape {
     pub fewest_rows: Option<u32>,
     /// Of twelve rows of kinds 6 to 12 so many are BEFORE rows as chains have them.
     pub leading: usize,
+    /// Each consequent speaks of few of the antecedent's points, and half of its rows of kinds 6 to 12 are FREE.
+    pub independent: bool,
 }
 
 pub const SMALL: Shape = Shape {
@@ -27,6 +29,7 @@ pub const SMALL: Shape = Shape {
     consequent_rows: 2,
     fewest_rows: None,
     leading: 1,
+    independent: false,
 };
 pub const MIDDLE: Shape = Shape {
     antecedent_points: 3,
@@ -37,6 +40,7 @@ pub const MIDDLE: Shape = Shape {
     consequent_rows: 3,
     fewest_rows: None,
     leading: 1,
+    independent: false,
 };
 pub const LARGE: Shape = Shape {
     antecedent_points: 4,
@@ -47,6 +51,7 @@ pub const LARGE: Shape = Shape {
     consequent_rows: 4,
     fewest_rows: None,
     leading: 1,
+    independent: false,
 };
 
 /// Sheets whose antiscenarios place at most two points freely, for logs of thousands of lines.
@@ -59,6 +64,7 @@ pub const NARROW: Shape = Shape {
     consequent_rows: 2,
     fewest_rows: None,
     leading: 1,
+    independent: false,
 };
 
 /// Sheets whose antiscenarios place at most three points freely, for logs of hundreds of lines.
@@ -75,6 +81,7 @@ pub const MANY: Shape = Shape {
     consequent_rows: 20,
     fewest_rows: Some(12),
     leading: 1,
+    independent: false,
 };
 
 /// Sheets of up to six consequents with so few rows that a log often meets them.
@@ -87,6 +94,7 @@ pub const FEW_ROWS: Shape = Shape {
     consequent_rows: 2,
     fewest_rows: Some(1),
     leading: 1,
+    independent: false,
 };
 
 /// Document 02, A8: sheets with little but points and BEFORE rows between them.
@@ -99,6 +107,21 @@ pub const CHAINS: Shape = Shape {
     consequent_rows: 5,
     fewest_rows: Some(2),
     leading: 10,
+    independent: false,
+};
+
+/// Document 02, A2: sheets whose antiscenarios place points of several consequents freely, where one consequent has no place for its own because of
+/// few of the points before them.
+pub const INDEPENDENT: Shape = Shape {
+    antecedent_points: 4,
+    antecedent_rows: 1,
+    fewest_consequents: 2,
+    consequents: 4,
+    consequent_points: 2,
+    consequent_rows: 2,
+    fewest_rows: Some(1),
+    leading: 1,
+    independent: true,
 };
 
 /// The text of a sheet whose rows are given by their fields.
@@ -186,6 +209,15 @@ fn two_of(random: &mut Random, points: &[u32]) -> (u32, u32) {
     let first = random.below(points.len());
     let second = (first + 1 + random.below(points.len() - 1)) % points.len();
     (points[first], points[second])
+}
+
+/// None, one or two of these points, mostly one.
+fn few_of(random: &mut Random, points: &[u32]) -> Vec<u32> {
+    match (points.len(), random.below(6)) {
+        (0, _) | (_, 0) => vec![],
+        (2.., 1) => <[u32; 2]>::from(two_of(random, points)).to_vec(),
+        _ => vec![random.pick(points)],
+    }
 }
 
 fn with_ends(ordinary: &[u32]) -> Vec<u32> {
@@ -286,6 +318,10 @@ fn antecedent(random: &mut Random, shape: &Shape) -> Vec<Row> {
 }
 
 fn consequent_row(random: &mut Random, shape: &Shape, section: u32, rows: &[Row], known: &[u32]) -> Row {
+    if shape.independent && random.one_in(2) {
+        let (p, q) = two_of(random, &with_ends(known));
+        return Row::of_set(section, FREE, p, q, set(random));
+    }
     match known.len() > 1 && random.below(12) < shape.leading {
         true => leading_row(random, section, rows, known),
         false => demanding_row(random, section, known),
@@ -356,7 +392,8 @@ pub fn random_rows(random: &mut Random, shape: &Shape) -> (u32, Vec<Row>) {
     let mut rows = antecedent(random, shape);
     let points = sheet::introduced(&rows, 0);
     for section in 1..=k {
-        rows.extend(consequent(random, shape, section, &points));
+        let spoken_of = if shape.independent { few_of(random, &points) } else { points.clone() };
+        rows.extend(consequent(random, shape, section, &spoken_of));
     }
     if random.one_in(2) {
         put_chain(random, &mut rows);

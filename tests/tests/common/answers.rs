@@ -5,7 +5,7 @@ use satskhubo_tests::expected::VIOLATED;
 use satskhubo_tests::generate::logs::log_of;
 use satskhubo_tests::generate::Pair;
 use satskhubo_tests::host::Host;
-use satskhubo_tests::outcome::{Side, Table, GUARD};
+use satskhubo_tests::outcome::{Searched, Side, Table, GUARD};
 use satskhubo_tests::reference::operations::MOST_POINTS;
 
 pub fn pair(sheet: &[u8], lines: &[(u32, u32)]) -> Pair {
@@ -29,7 +29,11 @@ pub fn verdict(pair: &Pair) -> Option<(Vec<u32>, Vec<u32>)> {
 
 /// The smallest matching of an antiscenario.
 pub fn found(pair: &Pair, number: u64) -> Option<Vec<u32>> {
-    let searched = Host.search(&pair.sheet, &pair.log, number, MOST_POINTS);
+    matching(&Host.search(&pair.sheet, &pair.log, number, MOST_POINTS))
+}
+
+/// What a search found.
+pub fn matching(searched: &Searched) -> Option<Vec<u32>> {
     assert_eq!(searched.answer, 0);
     let positions = searched.places[GUARD..].iter().copied().take_while(|&position| position <= 4001);
     (searched.found == 1).then(|| positions.collect())
