@@ -256,13 +256,21 @@ fn scans_text(n: u32) -> Vec<u8> {
     uniform(n, 3).text()
 }
 
+fn check_once(side: &str, what: &str) {
+    assert_eq!(what, "check", "neither a number nor a case");
+    let (sheet, log) = (sheet_s(), mixed_text(4000));
+    match side {
+        "ours" => keep(Host.check_number(&sheet, &log)),
+        _ => keep(plain::check(&sheet, &log)),
+    }
+}
+
 /// One run of one side on 4,000 lines, for counting its instructions: the check of S on mixed lines, the search of one of its numbers, or a case.
 fn once(side: &str, what: &str) {
     let (sheet, log, numbers) = match (case_of(what), what.parse::<u64>()) {
         (Some(case), _) => (case.sheet, (case.log)(4000).text(), case.numbers),
         (_, Ok(number)) => (sheet_s(), mixed_text(4000), number..=number),
-        _ if side == "ours" => return keep(Host.check_number(&sheet_s(), &mixed_text(4000))),
-        _ => return keep(plain::check(&sheet_s(), &mixed_text(4000))),
+        _ => return check_once(side, what),
     };
     let mut places = [0; 58];
     for number in numbers {
