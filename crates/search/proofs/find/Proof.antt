@@ -15,7 +15,7 @@ use Rattle.pattern.specs.Placing.{by}
 use Rattle.plan.specs.Tables.{point-count, row-count, pointsIn}
 use Rattle.scenario.proofs.Base.{never}
 use Rattle.placement.specs.Matching.{isFound, after, next-matching}
-use Rattle.placement.proofs.Starting.{blank, fixture, roomy, prepared, unmatched, smallest-next}
+use Rattle.placement.proofs.Starting.{blank, fixture, roomy, prepared, unmatched, smallest-next, fresh}
 use Rattle.search.specs.Searching.{filled}
 use Rattle.search.proofs.Finding.{read-off, filled-none}
 use borrow.Author.Needs.{needs}
@@ -53,6 +53,7 @@ next-requires c κs =
       (blank (a .n + 1), prepared (a .ticks .now) (a .events .now) (a .n) (s .pre .0) (a .rows .now) (a .plan .now) (s .pre .1) (s .pre .3) (s .pre .2) (sym (r .grounded .ensures) ∙ not-false _ (c .before .if1 .left))),
       fixture (a .ticks .now) (a .events .now) (a .n) (s .pre .0) (a .rows .now) (a .plan .now) (s .pre .1) (s .pre .3),
       λ q. never q,
+      λ q. fresh (a .ticks .now) (a .events .now) (a .n) (s .pre .0) (a .rows .now) (a .plan .now) (s .pre .1) (s .pre .3),
     )
 
 returns-2 : tie.Need-returns-2

@@ -17,8 +17,8 @@ use Rattle.pattern.specs.Placing.{by}
 use Rattle.plan.specs.Due.{ready}
 use Rattle.plan.specs.Tables.{point-count, row-count, pointsIn, slotsIn}
 use Rattle.scenario.proofs.Base.{never}
-use Rattle.placement.specs.Placing.{Fixture, Begun}
-use Rattle.placement.proofs.Starting.{blank as blank-env, roomy}
+use Rattle.placement.specs.Placing.{Fixture, Begun, Fresh}
+use Rattle.placement.proofs.Starting.{blank as blank-env, roomy, fresh}
 use Rattle.placement.proofs.Turn.{still}
 use Rattle.verdict.specs.declared.Checked.{Checked}
 use Rattle.verdict.specs.Check.{blank, verdictOf}
@@ -34,6 +34,7 @@ Inv-loop ticks events n rows count k plan positions₀ begun₀ positions begun 
     ≡ check (runAt ticks events n) (sheetAt rows count k))
     × All (λ (x : ℕ). x < length (part events n) + 2) (map (by positions) (points (rowsOf rows (row-count plan))))
     × (begun ≡ true → Begun (runAt ticks events n) n rows plan positions)
+    × (begun ≡ false → Fresh plan positions)
 
 abbrev μ-loop : tie.MeasureT-loop
 μ-loop ticks events n rows count k plan positions₀ begun₀ positions begun = still (length (part events n)) (length (points (rowsOf rows (row-count plan)))) (map (by positions) (points (rowsOf rows (row-count plan))))
@@ -65,6 +66,7 @@ loop-holds c =
       begin (a .ticks .now) (a .events .now) (a .n) (s .pre .0) (a .rows .now) (a .count) (a .k) (s .pre .1) (a .plan .now) (s .pre .2),
       begin-below (a .ticks .now) (a .events .now) (a .n) (s .pre .0) (a .rows .now) (a .count) (a .k) (s .pre .1) (a .plan .now) (s .pre .2),
       λ q. never q,
+      λ q. fresh (a .ticks .now) (a .events .now) (a .n) (s .pre .0) (a .rows .now) (a .plan .now) (s .pre .2 .drawn) (s .pre .2 .pattern),
     )
 
 next-requires : tie.Need-next-requires Inv-loop μ-loop
@@ -72,7 +74,7 @@ next-requires c κs =
     let l = c .before in
     let s = l .before .before .before .before in
     let a = s .args in
-    (s .pre .0, s .pre .2 .drawn .linked, (_, prepared (a .ticks .now) (a .events .now) (a .n) (s .pre .0) (a .rows .now) (a .count) (a .k) (s .pre .1) (a .plan .now) (s .pre .2) (all-grounded (l .before))), l .loop .inv .0, l .loop .inv .3)
+    (s .pre .0, s .pre .2 .drawn .linked, (_, prepared (a .ticks .now) (a .events .now) (a .n) (s .pre .0) (a .rows .now) (a .count) (a .k) (s .pre .1) (a .plan .now) (s .pre .2) (all-grounded (l .before))), l .loop .inv .0, l .loop .inv .3, l .loop .inv .4)
 
 -- The next matching was looked for.
 module _ (y : tie.After-next Inv-loop μ-loop) where
@@ -138,6 +140,7 @@ module _ (w : tie.After-at-fault Inv-loop μ-loop) where
           (not-false _ (w .before .before .before .before .if2 .left)) (w .at-fault .result) (w .at-fault .ensures .0) walked (w .at-fault .ensures .1) nz E e,
       λ q. pass-begun (a .ticks .now) (a .events .now) (a .n) (start .pre .0) (a .rows .now) (a .count) (a .k) (start .pre .1) (a .plan .now) (start .pre .2) (all-grounded (l .before)) (l .loop .positions) (l .loop .inv .0) (l .loop .inv .1) (y .next .result) (found-positions y) (y .next .ensures .0) (y .next .ensures .1)
           (not-false _ (w .before .before .before .before .if2 .left)) (w .at-fault .result) (w .at-fault .ensures .0) walked (w .at-fault .ensures .1) nz E e,
+      λ q. never (sym q),
     )
 
     falls : let run = runAt (start .args .ticks .now) (start .args .events .now) (start .args .n) in
