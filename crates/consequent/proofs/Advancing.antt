@@ -8,7 +8,6 @@ use Prim.Native.Nat.{ℕ, zero, suc, _+_, _-_, _≤_, _<_, min, max}
 use native.Mathlib.Numerals.{add-one}
 use native.Mathlib.Omega.{arith}
 use lib.ListN.{getD, set, replicate}
-use lib.Seq.{getD-set-other}
 use lib.Dec.{eqb}
 use borrow.Author.Tests.{eq-eqb, ne-eqb}
 use Rattle.scenario.specs.Rows.{Row, point, next, last, earlier, later, before, apart, same, free, within, outside, event, Run, meets, introduced}
@@ -114,29 +113,29 @@ module _ (ticks events E : List ℕ) (n kind p q a b s y : ℕ) (H : Held ticks 
   advanced-test c d e f g r er =
       told (stayIn r E) r E (test kind c d e f g ∙ ap (λ (t : Bool). stayIn t E) (sym er)) (sym (stay-met r E), sym (stay-env r E))
 
--- One row further, a point that the row does not introduce keeps its position.
-module _ (run : Run) (E : List ℕ) (m : ℕ) where
-  onto-keeps : (b : Bool) (p x : ℕ) → (m ≡ p → ⊥) → getD (orKeep E (cond b none (some (set E p x)))) m 0 ≡ getD E m 0
-  onto-keeps true p x n = refl
-  onto-keeps false p x n = getD-set-other E p m x 0 n
+-- One row further: what holds of the array, and wherever the row puts its own point, holds of what it leaves.
+module _ (run : Run) (E : List ℕ) (P : List ℕ → Type 0) (was : P E) where
+  onto-leaves : (b : Bool) (p x : ℕ) → P (set E p x) → P (orKeep E (cond b none (some (set E p x))))
+  onto-leaves true p x h = was
+  onto-leaves false p x h = h
 
-  stay-keeps : (b : Bool) → getD (orKeep E (stayIn b E)) m 0 ≡ getD E m 0
-  stay-keeps b = ap (λ (z : List ℕ). getD z m 0) (stay-env b E)
+  stay-leaves : (b : Bool) → P (orKeep E (stayIn b E))
+  stay-leaves b = subst P (sym (stay-env b E)) was
 
-  pub advance-keeps : (k : Row) → All (λ (p : ℕ). m ≡ p → ⊥) (introduced k) → getD (orKeep E (advanceIn run E k)) m 0 ≡ getD E m 0
+  pub advance-leaves : (k : Row) → ((x : ℕ) → All (λ (p : ℕ). P (set E p x)) (introduced k)) → P (orKeep E (advanceIn run E k))
   unfolding advanceIn
-  advance-keeps (point p s) n = refl
-  advance-keeps (next p q s) n = onto-keeps (eqb (orZero (lowest-above (run .has s) (getD E q 0) (run .lines - getD E q 0))) 0) p (orZero (lowest-above (run .has s) (getD E q 0) (run .lines - getD E q 0))) (n .0)
-  advance-keeps (last p q s) n = onto-keeps (eqb (orZero (highest-below (run .has s) (getD E q 0))) 0) p (orZero (highest-below (run .has s) (getD E q 0))) (n .0)
-  advance-keeps (earlier p q a) n = onto-keeps false p (min (getD E q 0) (getD E a 0)) (n .0)
-  advance-keeps (later p q a) n = onto-keeps false p (max (getD E q 0) (getD E a 0)) (n .0)
-  advance-keeps (before p q) n = stay-keeps (meets run (by E) (before p q))
-  advance-keeps (apart p q) n = stay-keeps (meets run (by E) (apart p q))
-  advance-keeps (same p q) n = stay-keeps (meets run (by E) (same p q))
-  advance-keeps (free p q s) n = stay-keeps (meets run (by E) (free p q s))
-  advance-keeps (within p q lo hi) n = stay-keeps (meets run (by E) (within p q lo hi))
-  advance-keeps (outside p q lo hi) n = stay-keeps (meets run (by E) (outside p q lo hi))
-  advance-keeps (event p s) n = stay-keeps (meets run (by E) (event p s))
+  advance-leaves (point p s) h = was
+  advance-leaves (next p q s) h = let x = orZero (lowest-above (run .has s) (getD E q 0) (run .lines - getD E q 0)) in onto-leaves (eqb x 0) p x (h x .0)
+  advance-leaves (last p q s) h = let x = orZero (highest-below (run .has s) (getD E q 0)) in onto-leaves (eqb x 0) p x (h x .0)
+  advance-leaves (earlier p q a) h = h (min (getD E q 0) (getD E a 0)) .0
+  advance-leaves (later p q a) h = h (max (getD E q 0) (getD E a 0)) .0
+  advance-leaves (before p q) h = stay-leaves (meets run (by E) (before p q))
+  advance-leaves (apart p q) h = stay-leaves (meets run (by E) (apart p q))
+  advance-leaves (same p q) h = stay-leaves (meets run (by E) (same p q))
+  advance-leaves (free p q s) h = stay-leaves (meets run (by E) (free p q s))
+  advance-leaves (within p q lo hi) h = stay-leaves (meets run (by E) (within p q lo hi))
+  advance-leaves (outside p q lo hi) h = stay-leaves (meets run (by E) (outside p q lo hi))
+  advance-leaves (event p s) h = stay-leaves (meets run (by E) (event p s))
 
 -- Rows
 

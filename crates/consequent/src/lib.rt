@@ -30,10 +30,10 @@ fn put(positions: &mut [u32], p: u32, x: u32) -> bool
 
 // One row further: its point is placed, or its test is passed; or it cannot be met, and the positions stay.
 pub fn advance(
-    ticks: &[u32],
-    events: &[u32],
+    ticks: &[u32; runlog::TICKS_ROOM],
+    events: &[u32; runlog::EVENTS_ROOM],
     n: u32,
-    positions: &mut [u32],
+    positions: &mut [u32; pattern::POINT_NUMBERS],
     row: pattern::Row,
 ) -> bool
     requires { ⌜ Held (now ticks) (now events) n ⌝ }
@@ -68,13 +68,13 @@ pub fn advance(
 // For each consequent the first row that cannot be met, over these positions; all is false where a consequent has none.
 // The rows place their consequent's points among them: no other consequent uses them.
 pub fn at_fault(
-    ticks: &[u32],
-    events: &[u32],
+    ticks: &[u32; runlog::TICKS_ROOM],
+    events: &[u32; runlog::EVENTS_ROOM],
     n: u32,
     rows: &[u32; pattern::ROWS_ROOM],
     count: u32,
     k: u32,
-    positions: &mut [u32],
+    positions: &mut [u32; pattern::POINT_NUMBERS],
 ) -> Faults
     requires { ⌜ Held (now ticks) (now events) n × SheetHeld (now rows) count k × (length (now positions) ≡ point-numbers) ⌝ }
     ensures faults { λ r. ⌜ r ≡ faultsIn (runAt (now (ticks .entry)) (now (events .entry)) n) (tagsOf (now (rows .entry)) count) (now (positions .entry)) 0 k (replicate 6 0) ⌝ }

@@ -133,7 +133,13 @@ fn ordered(kind: u32, x: u32, y: u32) -> bool
 }
 
 // "Kinds of row and when a placement meets them": whether the row is met where its points have these positions, by point number.
-pub fn meets(ticks: &[u32], events: &[u32], n: u32, positions: &[u32], row: Row) -> bool
+pub fn meets(
+    ticks: &[u32; runlog::TICKS_ROOM],
+    events: &[u32; runlog::EVENTS_ROOM],
+    n: u32,
+    positions: &[u32; POINT_NUMBERS],
+    row: Row,
+) -> bool
     requires { ⌜ Held (now ticks) (now events) n ⌝ }
     ensures { λ r. ⌜ r ≡ meetsOf (runAt (now (ticks .entry)) (now (events .entry)) n) (by (now (positions .entry))) (decode (row .kind) (row .p) (row .q) (row .a) (row .b) (row .set)) ⌝ }
 {
@@ -216,10 +222,10 @@ fn all_lines(positions: &[u32], point_count: u32, n: u32) -> bool
 
 // Whether all rows are met where their points have these positions, by point number.
 fn all_met(
-    ticks: &[u32],
-    events: &[u32],
+    ticks: &[u32; runlog::TICKS_ROOM],
+    events: &[u32; runlog::EVENTS_ROOM],
     n: u32,
-    positions: &[u32],
+    positions: &[u32; POINT_NUMBERS],
     rows: &[u32; ROWS_ROOM],
     count: u32,
 ) -> bool
@@ -238,8 +244,8 @@ fn all_met(
 
 // Whether the first `point_count` positions are a matching of the rows, whose points, in order of introduction, are the first of `points`, as many.
 pub fn is_matching(
-    ticks: &[u32],
-    events: &[u32],
+    ticks: &[u32; runlog::TICKS_ROOM],
+    events: &[u32; runlog::EVENTS_ROOM],
     n: u32,
     rows: &[u32; ROWS_ROOM],
     count: u32,

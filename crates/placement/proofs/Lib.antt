@@ -6,5 +6,6 @@ pub mod Turn
 pub mod Following
 pub mod Jump
 pub mod Blame
+pub mod Nowhere
 pub mod Onward
 pub mod Starting

@@ -122,7 +122,5 @@ judge-spec =
     (λ c κs. search needs)
     returns-2
     (λ c. search needs)
-    (λ c. search needs)
-    (λ c. search needs)
     is-matching-requires
     returns-3)

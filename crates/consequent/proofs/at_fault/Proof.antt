@@ -1,10 +1,9 @@
 -- `at_fault` meets its contract. Rows: what the walk says from row j on is what it says from the first. Consequents: the same from c on.
 -- Both leave the points alone that no consequent introduces, so that each consequent is walked as over the array at the start.
 use borrow.Author.Needs.{needs}
-use mathlib.Core.Path.{_≡_, sym, _∙_, ap, subst}
+use mathlib.Core.Path.{_≡_, sym, _∙_, subst}
 use mathlib.Core.Logic.{⊎-elim}
-use mathlib.Core.List.{List}
-use Prim.Native.Nat.{ℕ, _+_, _≤_, _-_}
+use Prim.Native.Nat.{_+_, _≤_, _-_}
 use native.Mathlib.Nat.{sub-zero}
 use native.Mathlib.Omega.{arith}
 use lib.ListN.{length, replicate, length-set}
@@ -41,18 +40,18 @@ abbrev μ-consequents : tie.MeasureT-consequents
 -- what the inner loop was broken with
 row-is : (c : tie.Joined1 Inv-rows μ-rows Inv-consequents μ-consequents) →
     let at = c .before .before .before in
-    let a = at .before .before .before .before .args in
+    let a = at .before .args in
     c .if1 .row ≡ faultIn (runAt (a .ticks .now) (a .events .now) (a .n)) (at .consequents .c + 1) (a .positions .now) 0 (tagsOf (a .rows .now) (a .count))
 row-is c =
     let at = c .before .before .before in
-    let s = at .before .before .before .before in
+    let s = at .before in
     let a = s .args in
     let r = c .before .rows in
     let w = runAt (a .ticks .now) (a .events .now) (a .n) in
     ⊎-elim
     (λ v. v .2 ∙ sym (fault-end w (a .rows .now) (a .count) (at .consequents .c + 1) (r .positions) (r .j) (v .0 .taken)) ∙ r .inv .2)
-    (λ v. let k = v .5 .result in v .11 ∙ sym (stuck w (a .rows .now) (a .count) (at .consequents .c + 1) (r .positions) (r .j) (v .0 .left) (v .2 .result) (v .2 .ensures) (v .3 .left)
-    (decode (k .kind) (k .p) (k .q) (k .a) (k .b) (k .set)) (v .5 .ensures) (v .6 .result) (v .6 .ensures .0) (not-true _ (v .9 .taken))) ∙ r .inv .2)
+    (λ v. let k = v .5 .result in v .9 ∙ sym (stuck w (a .rows .now) (a .count) (at .consequents .c + 1) (r .positions) (r .j) (v .0 .left) (v .2 .result) (v .2 .ensures) (v .3 .left)
+    (decode (k .kind) (k .p) (k .q) (k .a) (k .b) (k .set)) (v .5 .ensures) (v .6 .result) (v .6 .ensures .0) (not-true _ (v .7 .taken))) ∙ r .inv .2)
     (c .if1 .came)
     ∙ fault-same (a .rows .now) (a .count) (a .k) (s .pre .1) w (seen-laws (a .ticks .now) (a .events .now) (a .n) (s .pre .0)) (a .positions .now) (at .consequents .positions) (s .pre .2) (at .consequents .inv .2)
     (at .consequents .c) (c .before .before .consequents-test .taken)
@@ -60,11 +59,11 @@ row-is c =
 -- and the array that it left
 env-is : (c : tie.Joined1 Inv-rows μ-rows Inv-consequents μ-consequents) →
     let at = c .before .before .before in
-    let a = at .before .before .before .before .args in
+    let a = at .before .args in
     Kept (tagsOf (a .rows .now) (a .count)) (a .positions .now) (c .if1 .positions)
 env-is c =
     let at = c .before .before .before in
-    let s = at .before .before .before .before in
+    let s = at .before in
     let a = s .args in
     let r = c .before .rows in
     let ts = tagsOf (a .rows .now) (a .count) in
@@ -74,50 +73,47 @@ env-is c =
     (λ v. subst (Kept ts (r .positions)) (sym (v .1)) (kept-all ts (r .positions)))
     (λ v. let k = v .5 .result in row-keeps (runAt (a .ticks .now) (a .events .now) (a .n)) (a .rows .now) (a .count)
     (r .positions) (c .if1 .positions) (r .j) (at .consequents .c) (v .2 .result) (v .0 .left) (v .2 .ensures) (v .3 .left) (decode (k .kind) (k .p) (k .q) (k .a) (k .b) (k .set)) (v .5 .ensures)
-    (ap (λ (z : List ℕ). length z) (v .10) ∙ v .6 .kept .1 .1 .1 .0) (v .10 ∙ v .6 .ensures .1))
+    (v .8 ∙ v .6 .ensures .1))
     (c .if1 .came)))
 
 consequents-holds : tie.Need-consequents-holds Inv-rows μ-rows Inv-consequents μ-consequents
-consequents-holds c = let a = c .before .before .before .args in (search needs, search needs, kept-all (tagsOf (a .rows .now) (a .count)) (a .positions .now), rw sub-zero)
+consequents-holds c = let a = c .args in (search needs, search needs, kept-all (tagsOf (a .rows .now) (a .count)) (a .positions .now), rw sub-zero)
 
 rows-holds : tie.Need-rows-holds Inv-rows μ-rows Inv-consequents μ-consequents
 unfolding tagsOf
-rows-holds c = let a = c .before .before .before .before .before .args in (search needs, kept-all (tagsOf (a .rows .now) (a .count)) (c .before .consequents .positions), rw sub-zero)
+rows-holds c = let a = c .before .before .args in (search needs, kept-all (tagsOf (a .rows .now) (a .count)) (c .before .consequents .positions), rw sub-zero)
 
 rows-again : tie.Need-rows-again Inv-rows μ-rows Inv-consequents μ-consequents
 rows-again c =
     let l = c .before .before .before .before in
     let at = l .before .before in
-    let a = at .before .before .before .before .args in
+    let a = at .before .args in
     let r = l .rows in
     (search needs, r .inv .1, sym (skip (runAt (a .ticks .now) (a .events .now) (a .n)) (a .rows .now) (a .count) (at .consequents .c + 1) (r .positions) (r .j) (c .before .before .before .if1 .left) (c .before .section-of .result) (c .before .section-of .ensures) (c .if2 .taken)) ∙ r .inv .2)
 
 advance-requires : tie.Need-advance-requires Inv-rows μ-rows Inv-consequents μ-consequents
-advance-requires c κs = c .before .before .before .before .before .before .before .before .before .before .before .before .pre .0
+advance-requires c κs = c .before .before .before .before .before .before .before .before .before .pre .0
 
 rows-again-2 : tie.Need-rows-again-2 Inv-rows μ-rows Inv-consequents μ-consequents
 rows-again-2 c =
-    let l = c .before .before .before .before .before .before .before .before .before .before in
+    let l = c .before .before .before .before .before .before .before .before in
     let at = l .before .before in
-    let s = at .before .before .before .before in
+    let s = at .before in
     let a = s .args in
     let r = l .rows in
     let w = runAt (a .ticks .now) (a .events .now) (a .n) in
-    let h = c .before .before .before .before .before .before .before .before .before .if1 .left in
-    let t = c .before .before .before .before .before .before .before .section-of in
-    let v = c .before .before .before .advance in
-    let row = c .before .before .before .before .row-at in
+    let h = c .before .before .before .before .before .before .before .if1 .left in
+    let t = c .before .before .before .before .before .section-of in
+    let v = c .before .advance in
+    let row = c .before .before .row-at in
     let k = decode (row .result .kind) (row .result .p) (row .result .q) (row .result .a) (row .result .b) (row .result .set) in (
       omega (arith, h),
       kept-on (tagsOf (a .rows .now) (a .count)) (at .consequents .positions) (r .positions) (v .last .1 .1 .1 .0) (r .inv .1)
           (row-keeps w (a .rows .now) (a .count) (r .positions) (v .last .1 .1 .1 .0) (r .j) (at .consequents .c)
-          (t .result) h (t .ensures) (c .before .before .before .before .before .before .if2 .left) k (row .ensures) (v .kept .1 .1 .1 .0) (v .ensures .1)),
-      sym (passed w (a .rows .now) (a .count) (at .consequents .c + 1) (r .positions) (r .j) h (t .result) (t .ensures) (c .before .before .before .before .before .before .if2 .left) k (row .ensures)
+          (t .result) h (t .ensures) (c .before .before .before .before .if2 .left) k (row .ensures) (v .ensures .1)),
+      sym (passed w (a .rows .now) (a .count) (at .consequents .c + 1) (r .positions) (r .j) h (t .result) (t .ensures) (c .before .before .before .before .if2 .left) k (row .ensures)
           (v .result) (v .ensures .0) (v .last .1 .1 .1 .0) (v .ensures .1) (not-false _ (c .if3 .left))) ∙ r .inv .2,
     )
-
-same-length : tie.Need-same-length Inv-rows μ-rows Inv-consequents μ-consequents
-same-length c = env-is (c .before) .size
 
 returns : tie.Need-returns Inv-rows μ-rows Inv-consequents μ-consequents
 returns c =
@@ -129,9 +125,6 @@ consequents-again c =
     let at = c .before .before .before .before in
     let row = c .before in
     (search needs, simp length-set (search needs), env-is row, sym (faults-on _ _ _ (at .consequents .c) _ _ (search needs) (row .if1 .row) (sym (row-is row)) (c .if4 .left)) ∙ at .consequents .inv .3)
-
-same-length-2 : tie.Need-same-length-2 Inv-rows μ-rows Inv-consequents μ-consequents
-same-length-2 c = c .before .consequents .inv .2 .size
 
 returns-2 : tie.Need-returns-2 Inv-rows μ-rows Inv-consequents μ-consequents
 returns-2 c = (sym (sym (c .before .consequents .inv .3) ∙ faults-end _ _ _ (c .before .consequents .c) _ _ (c .consequents-test .left)), c .before .consequents .inv .2)
@@ -158,7 +151,6 @@ at-fault-spec =
     (λ c. search needs)
     (λ c. search needs)
     rows-again-2
-    same-length
     returns
     (λ c. search needs)
     (λ c. search needs)
@@ -166,5 +158,4 @@ at-fault-spec =
     (λ c. search needs)
     (λ c. search needs)
     consequents-again
-    same-length-2
     returns-2)

@@ -25,18 +25,18 @@ unfolding rowsOf
 loop-holds c = (search needs, rw sub-zero refl)
 
 meets-requires : tie.Need-meets-requires Inv-loop μ-loop
-meets-requires c κs = c .before .before .before .before .before .before .pre .0
+meets-requires c κs = c .before .before .before .pre .0
 
 returns : tie.Need-returns Inv-loop μ-loop
 returns c =
-    let a = c .before .before .before .before .before .before .before .before .args in
+    let a = c .before .before .before .before .before .args in
     let l = c .before .before .before .before .loop in
     met-not (runAt (a .ticks .now) (a .events .now) (a .n)) (by (a .positions .now)) (a .rows .now) (a .count) (l .j) _ (c .before .before .row-at .ensures) (c .before .before .before .loop-test .taken)
     (sym (c .before .meets .ensures) ∙ not-true _ (c .if1 .taken)) ∙ l .inv .1
 
 loop-again : tie.Need-loop-again Inv-loop μ-loop
 loop-again c =
-    let a = c .before .before .before .before .before .before .before .before .args in
+    let a = c .before .before .before .before .before .args in
     let l = c .before .before .before .before .loop in (
       search needs,
       met-on (runAt (a .ticks .now) (a .events .now) (a .n)) (by (a .positions .now)) (a .rows .now) (a .count) (l .j) _ (c .before .before .row-at .ensures) (c .before .before .before .loop-test .taken)
@@ -45,7 +45,7 @@ loop-again c =
 
 returns-2 : tie.Need-returns-2 Inv-loop μ-loop
 returns-2 c =
-    let a = c .before .before .before .before .before .args in
+    let a = c .before .before .args in
     let l = c .before .loop in
     met-end (runAt (a .ticks .now) (a .events .now) (a .n)) (by (a .positions .now)) (a .rows .now) (a .count) (l .j) (c .loop-test .left) ∙ l .inv .1
 

@@ -9,20 +9,20 @@ use Rattle.pattern.proofs.is_matching.Tie as tie
 
 returns : tie.Need-returns
 returns c =
-    let s = c .before .before .before .before .before .before in
+    let s = c .before .before .before .before in
     let a = s .args in
     placement-off (a .ticks .now) (a .events .now) (a .n) (s .pre .0) (rowsOf (a .rows .now) (a .count)) (a .points .now) (a .positions .now) (a .point-count) (s .pre .3) (s .pre .4) (s .pre .5)
     (c .before .all-lines .result) (c .before .all-lines .ensures) (not-true _ (c .if1 .taken))
 
 put-points-requires : tie.Need-put-points-requires
 put-points-requires c κs =
-    let s = c .before .before .before .before .before .before .before in
+    let s = c .before .before .before .before .before in
     let a = s .args in
     (points-room (a .ticks .now) (a .events .now) (a .n) (s .pre .0) (rowsOf (a .rows .now) (a .count)) (a .points .now) (a .positions .now) (a .point-count) (s .pre .3) (s .pre .4) (s .pre .5), s .pre .5)
 
 returns-2 : tie.Need-returns-2
 returns-2 c =
-    let s = c .before .before .before .before .before .before .before .before .before .before .before in
+    let s = c .before .before .before .before .before .before .before .before .before in
     let a = s .args in
     placement-met (a .ticks .now) (a .events .now) (a .n) (s .pre .0) (rowsOf (a .rows .now) (a .count)) (a .points .now) (a .positions .now) (a .point-count) (s .pre .3) (s .pre .4) (s .pre .5) (s .pre .2)
     (c .before .before .before .before .before .before .all-lines .result) (c .before .before .before .before .before .before .all-lines .ensures) (not-false _ (c .before .before .before .before .before .if1 .left))
@@ -38,6 +38,5 @@ is-matching-spec =
     (λ c. search needs)
     (λ c. search needs)
     put-points-requires
-    (λ c. search needs)
     (λ c κs. search needs)
     returns-2)

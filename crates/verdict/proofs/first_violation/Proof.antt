@@ -98,7 +98,7 @@ returns-2 c = c .unviolated2 .ensures ∙ none-next (c .before .before) (not-tru
 -- It was found, and each consequent was walked over it.
 module _ (w : tie.After-at-fault Inv-loop μ-loop) where
   abbrev y : tie.After-next Inv-loop μ-loop
-  y = w .before .before .before .before .before
+  y = w .before .before .before
 
   abbrev start : tie.Start Inv-loop μ-loop
   start = y .before .before .before .before .before .before
@@ -110,22 +110,22 @@ module _ (w : tie.After-at-fault Inv-loop μ-loop) where
       → violatedBy (point-count (start .args .plan .now)) (start .args .k) at (w .at-fault .result .rows) ≡ answer start
   hit = let l = y .before .before in let a = start .args in
       loop-hit (a .ticks .now) (a .events .now) (a .n) (start .pre .0) (a .rows .now) (a .count) (a .k) (start .pre .1) (a .plan .now) (start .pre .2) (all-grounded (l .before)) (l .loop .positions) (l .loop .inv .0) (l .loop .inv .1) (y .next .result) (found-positions y) (y .next .ensures .0) (y .next .ensures .1)
-      (not-false _ (w .before .before .before .before .if2 .left)) (w .at-fault .result) (w .at-fault .ensures .0) walked (w .at-fault .ensures .1)
+      (not-false _ (w .before .before .if2 .left)) (w .at-fault .result) (w .at-fault .ensures .0) walked (w .at-fault .ensures .1)
 
   still-kept : Fixture (runAt (start .args .ticks .now) (start .args .events .now) (start .args .n)) walked
   still-kept = let l = y .before .before in let a = start .args in
       walk-keeps (a .ticks .now) (a .events .now) (a .n) (start .pre .0) (a .rows .now) (a .count) (a .k) (start .pre .1) (a .plan .now) (start .pre .2) (all-grounded (l .before)) (l .loop .positions) (l .loop .inv .0) (l .loop .inv .1) (y .next .result) (found-positions y) (y .next .ensures .0) (y .next .ensures .1)
-      (not-false _ (w .before .before .before .before .if2 .left)) (w .at-fault .result) (w .at-fault .ensures .0) walked (w .at-fault .ensures .1)
+      (not-false _ (w .before .before .if2 .left)) (w .at-fault .result) (w .at-fault .ensures .0) walked (w .at-fault .ensures .1)
 
   on-lines : (i : ℕ) → i < point-count (start .args .plan .now) → (getD (pointsIn (start .args .plan .now)) i 0 < 100) × (getD walked (getD (pointsIn (start .args .plan .now)) i 0) 0 ≤ 4000)
   on-lines = let l = y .before .before in let a = start .args in
       loop-room (a .ticks .now) (a .events .now) (a .n) (start .pre .0) (a .rows .now) (a .count) (a .k) (start .pre .1) (a .plan .now) (start .pre .2) (all-grounded (l .before)) (l .loop .positions) (l .loop .inv .0) (l .loop .inv .1) (y .next .result) (found-positions y) (y .next .ensures .0) (y .next .ensures .1)
-      (not-false _ (w .before .before .before .before .if2 .left)) (w .at-fault .result) (w .at-fault .ensures .0) walked (w .at-fault .ensures .1)
+      (not-false _ (w .before .before .if2 .left)) (w .at-fault .result) (w .at-fault .ensures .0) walked (w .at-fault .ensures .1)
 
   no-other : w .at-fault .result .all ≡ false → point-count (start .args .plan .now) ≡ 0 → blank 0 ≡ answer start
   no-other = let l = y .before .before in let a = start .args in
       loop-last (a .ticks .now) (a .events .now) (a .n) (start .pre .0) (a .rows .now) (a .count) (a .k) (start .pre .1) (a .plan .now) (start .pre .2) (all-grounded (l .before)) (l .loop .positions) (l .loop .inv .0) (l .loop .inv .1) (y .next .result) (found-positions y) (y .next .ensures .0) (y .next .ensures .1)
-      (not-false _ (w .before .before .before .before .if2 .left)) (w .at-fault .result) (w .at-fault .ensures .0) walked (w .at-fault .ensures .1)
+      (not-false _ (w .before .before .if2 .left)) (w .at-fault .result) (w .at-fault .ensures .0) walked (w .at-fault .ensures .1)
 
   -- Past it: the positions are those walked, with the last point one further.
   module _ (nz : point-count (start .args .plan .now) ≡ 0 → ⊥) (E : List ℕ)
@@ -133,13 +133,13 @@ module _ (w : tie.After-at-fault Inv-loop μ-loop) where
     again : w .at-fault .result .all ≡ false → let a = start .args in Inv-loop (a .ticks .now) (a .events .now) (a .n) (a .rows .now) (a .count) (a .k) (a .plan .now) (blank-env (a .n + 1)) false E true
     again m = let l = y .before .before in let a = start .args in (
       pass-keeps (a .ticks .now) (a .events .now) (a .n) (start .pre .0) (a .rows .now) (a .count) (a .k) (start .pre .1) (a .plan .now) (start .pre .2) (all-grounded (l .before)) (l .loop .positions) (l .loop .inv .0) (l .loop .inv .1) (y .next .result) (found-positions y) (y .next .ensures .0) (y .next .ensures .1)
-          (not-false _ (w .before .before .before .before .if2 .left)) (w .at-fault .result) (w .at-fault .ensures .0) walked (w .at-fault .ensures .1) nz E e,
+          (not-false _ (w .before .before .if2 .left)) (w .at-fault .result) (w .at-fault .ensures .0) walked (w .at-fault .ensures .1) nz E e,
       loop-miss (a .ticks .now) (a .events .now) (a .n) (start .pre .0) (a .rows .now) (a .count) (a .k) (start .pre .1) (a .plan .now) (start .pre .2) (all-grounded (l .before)) (l .loop .positions) (l .loop .inv .0) (l .loop .inv .1) (y .next .result) (found-positions y) (y .next .ensures .0) (y .next .ensures .1)
-          (not-false _ (w .before .before .before .before .if2 .left)) (w .at-fault .result) (w .at-fault .ensures .0) walked (w .at-fault .ensures .1) nz E e m,
+          (not-false _ (w .before .before .if2 .left)) (w .at-fault .result) (w .at-fault .ensures .0) walked (w .at-fault .ensures .1) nz E e m,
       pass-below (a .ticks .now) (a .events .now) (a .n) (start .pre .0) (a .rows .now) (a .count) (a .k) (start .pre .1) (a .plan .now) (start .pre .2) (all-grounded (l .before)) (l .loop .positions) (l .loop .inv .0) (l .loop .inv .1) (y .next .result) (found-positions y) (y .next .ensures .0) (y .next .ensures .1)
-          (not-false _ (w .before .before .before .before .if2 .left)) (w .at-fault .result) (w .at-fault .ensures .0) walked (w .at-fault .ensures .1) nz E e,
+          (not-false _ (w .before .before .if2 .left)) (w .at-fault .result) (w .at-fault .ensures .0) walked (w .at-fault .ensures .1) nz E e,
       λ q. pass-begun (a .ticks .now) (a .events .now) (a .n) (start .pre .0) (a .rows .now) (a .count) (a .k) (start .pre .1) (a .plan .now) (start .pre .2) (all-grounded (l .before)) (l .loop .positions) (l .loop .inv .0) (l .loop .inv .1) (y .next .result) (found-positions y) (y .next .ensures .0) (y .next .ensures .1)
-          (not-false _ (w .before .before .before .before .if2 .left)) (w .at-fault .result) (w .at-fault .ensures .0) walked (w .at-fault .ensures .1) nz E e,
+          (not-false _ (w .before .before .if2 .left)) (w .at-fault .result) (w .at-fault .ensures .0) walked (w .at-fault .ensures .1) nz E e,
       λ q. never (sym q),
     )
 
@@ -148,11 +148,11 @@ module _ (w : tie.After-at-fault Inv-loop μ-loop) where
         still (run .lines) (length ps) (map (by E) ps) < still (run .lines) (length ps) (map (by (y .before .before .loop .positions)) ps)
     falls = let l = y .before .before in let a = start .args in
         loop-falls (a .ticks .now) (a .events .now) (a .n) (start .pre .0) (a .rows .now) (a .count) (a .k) (start .pre .1) (a .plan .now) (start .pre .2) (all-grounded (l .before)) (l .loop .positions) (l .loop .inv .0) (l .loop .inv .1) (y .next .result) (found-positions y) (y .next .ensures .0) (y .next .ensures .1)
-        (not-false _ (w .before .before .before .before .if2 .left)) (w .at-fault .result) (w .at-fault .ensures .0) walked (w .at-fault .ensures .1) nz E e (l .loop .inv .2)
+        (not-false _ (w .before .before .if2 .left)) (w .at-fault .result) (w .at-fault .ensures .0) walked (w .at-fault .ensures .1) nz E e (l .loop .inv .2)
 
 places-of-requires : tie.Need-places-of-requires Inv-loop μ-loop
 places-of-requires c κs =
-    let s = start (c .before .before .before) in
+    let s = start (c .before .before) in
     let a = s .args in
     (omega (arith, s .pre .2 .drawn .number, ap (λ z. length (points z)) (s .pre .2 .antecedent-rows), s .pre .1 .read .few), roomy (a .ticks .now) (a .events .now) (a .n) (s .pre .0) (a .rows .now) (a .plan .now) (s .pre .2 .drawn) (s .pre .2 .pattern))
 
@@ -160,12 +160,12 @@ returns-3 : tie.Need-returns-3 Inv-loop μ-loop
 returns-3 c =
     let o = c .before .before in
     let t = o .before .before in
-    let w = t .before .before in
+    let w = t .before in
     ap (λ (p : ℕ). violatedBy p (start w .args .k) (o .places-of .result) (w .at-fault .result .rows)) (c .point-count .ensures) ∙ hit w (t .if3 .taken) (o .places-of .result) (o .places-of .ensures)
 
 pass-requires : tie.Need-pass-requires Inv-loop μ-loop
 pass-requires c κs =
-    let w = c .before .before .before in
+    let w = c .before .before in
     let s = start w in
     (omega (arith, s .pre .2 .drawn .number, s .pre .2 .pattern .few), still-kept w .size, on-lines w)
 
@@ -173,17 +173,17 @@ returns-4 : tie.Need-returns-4 Inv-loop μ-loop
 returns-4 c =
     let g = c .before .before in
     let e = g .before .before in
-    c .unviolated3 .ensures ∙ no-other (e .before .before) (e .if3 .left) (no-points _ (g .pass .result) (g .pass .ensures .0) (not-true _ (c .before .if4 .taken)))
+    c .unviolated3 .ensures ∙ no-other (e .before) (e .if3 .left) (no-points _ (g .pass .result) (g .pass .ensures .0) (not-true _ (c .before .if4 .taken)))
 
 -- there is a point, and it was moved
-some : (c : tie.Else4 Inv-loop μ-loop) → point-count (start (c .before .before .before .before .before) .args .plan .now) ≡ 0 → ⊥
+some : (c : tie.Else4 Inv-loop μ-loop) → point-count (start (c .before .before .before .before) .args .plan .now) ≡ 0 → ⊥
 some c = some-points _ (c .before .pass .result) (c .before .pass .ensures .0) (not-false _ (c .if4 .left))
 
 loop-less : tie.Need-loop-less Inv-loop μ-loop
-loop-less c = let g = c .before in falls (g .before .before .before .before) (some c) _ (g .pass .ensures .1 .0 (some c))
+loop-less c = let g = c .before in falls (g .before .before .before) (some c) _ (g .pass .ensures .1 .0 (some c))
 
 loop-again : tie.Need-loop-again Inv-loop μ-loop
-loop-again c = let g = c .before in again (g .before .before .before .before) (some c) _ (g .pass .ensures .1 .0 (some c)) (g .before .before .if3 .left)
+loop-again c = let g = c .before in again (g .before .before .before) (some c) _ (g .pass .ensures .1 .0 (some c)) (g .before .before .if3 .left)
 
 pub first-violation-spec : {M : Type 1} → statement M
 first-violation-spec =
@@ -200,8 +200,7 @@ first-violation-spec =
     next-requires
     (λ c κs. search needs)
     returns-2
-    (λ c. sym (keeps (c .before .before .before .before) .size))
-    (λ c κs. let s = c .before .before .before .before .before .before .before .before .before .before in (s .pre .0, s .pre .1, keeps (c .before .before .before .before) .size))
+    (λ c κs. let y = c .before .before in (s y .pre .0, s y .pre .1, keeps y .size))
     places-of-requires
     (λ c κs. search needs)
     returns-3
