@@ -26,7 +26,7 @@ pub const MOST_POINTS: usize = 58;
 pub const ROWS_ROOM: usize = 1200;
 
 // 2^32: what a 1 of the upper half counts in a set.
-const UPPER_ONE: u64 = 4294967296;
+pub const UPPER_ONE: u64 = 4294967296;
 
 // A row's five numbers, and the set whose halves a and b are where the kind has one.
 pub struct Row {
