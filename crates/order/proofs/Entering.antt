@@ -3,17 +3,17 @@
 use mathlib.Core.Path.{_≡_, refl, sym, ap, ap₂, _∙_, subst}
 use mathlib.Core.Bool.{Bool, true, false, cond, _&&_, _||_}
 use mathlib.Core.List.{List, [], _∷_}
-use Prim.Native.Nat.{ℕ, zero, suc, _+_, _-_, _%_, _≤_, _<_}
+use Prim.Native.Nat.{ℕ, suc, _+_, _-_, _%_, _≤_, _<_}
 use native.Mathlib.Omega.{arith}
 use lib.Bits.{bitOr}
-use lib.ListN.{length, getD}
+use lib.ListN.{getD}
 use lib.Dec.{ltb, eqb}
 use borrow.Author.Tests.{ltb-true, eq-eqb, ne-eqb}
 use Rattle.scenario.specs.Links.{Link, leads}
 use Rattle.scenario.specs.Log.{inSet}
 use Rattle.row.specs.declared.Line.{Line}
 use Rattle.row.specs.Memory.{lineIn}
-use Rattle.order.specs.Leading.{places, told, Tells, Onward, entered, place, linkOf, linksIn, Led}
+use Rattle.order.specs.Leading.{places, Tells, Onward, entered, place, linkOf, linksIn, Led}
 use Rattle.scenario.proofs.Sets.{inSet-or}
 
 or-none : (b : Bool) → b ≡ b || false
