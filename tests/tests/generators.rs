@@ -3,7 +3,9 @@
 use satskhubo_tests::generate::arguments::{arguments_of, Arguments};
 use satskhubo_tests::generate::chains::chains;
 use satskhubo_tests::generate::families;
-use satskhubo_tests::generate::pairs::{chained_pair_of, has_short_denial, large_pair_of, long_pair_of, pair_of};
+use satskhubo_tests::generate::pairs::{
+    chained_pair_of, has_short_denial, is_violated_later, large_pair_of, long_pair_of, longer_rule_pair_of, pair_of, rule_pair_of,
+};
 use satskhubo_tests::generate::Pair;
 use satskhubo_tests::reference::antiscenario::antiscenario;
 use satskhubo_tests::reference::blunder::{Blunder, IN_FAR_ENDS};
@@ -12,7 +14,7 @@ use satskhubo_tests::reference::far_end::far_end;
 use satskhubo_tests::reference::log::Log;
 use satskhubo_tests::reference::operations::{open, Opened, Verdict};
 use satskhubo_tests::reference::refusal::Refusal;
-use satskhubo_tests::reference::rows::positions_of;
+use satskhubo_tests::reference::rows::{meets, points, positions_of, Placement};
 use satskhubo_tests::reference::sheet::{self, introduced, is_end, kind::*, Row, Sheet, CLOSE, START};
 use satskhubo_tests::reference::weeded;
 use std::collections::BTreeMap;
@@ -347,6 +349,108 @@ fn show_every_slip(name: &str, texts: &[Vec<u8>]) {
 fn chains_show_every_slip() {
     show_every_slip("chained pairs", &(0..4000).map(|seed| chained_pair_of(seed).sheet).collect::<Vec<_>>());
     show_every_slip("the families", &chains().into_iter().flat_map(|family| family.sheets).collect::<Vec<_>>());
+}
+
+/// An ordinary rule's antecedent, and how many of its points, in order, are all that each consequent speaks of.
+fn of_rule(reached: &mut Reached, sheet: &Sheet, log: &Log) {
+    let antecedent = sheet.section(0);
+    for row in &antecedent {
+        of_row(reached, row);
+        of_limits(reached, row, log);
+        if ![POINT, EVENT].contains(&row.kind) && !is_end(row.p) && !is_end(row.q) {
+            count(reached, format!("kind {} between two points", row.kind));
+        }
+    }
+    for rows in (1..=sheet.k).map(|section| sheet.section(section)) {
+        let of_two = |row: &&Row| [EARLIER, LATER].contains(&row.kind);
+        let spoken_of = rows.iter().flat_map(|row| [row.p, row.q]).chain(rows.iter().filter(of_two).map(|row| row.a));
+        let last = spoken_of.filter(|point| *point < 10).max().unwrap_or(START);
+        count(reached, format!("a consequent up to point {last} of {}", points(&antecedent).len()));
+        if rows.iter().filter(of_two).any(|row| row.q.max(row.a) < 10) {
+            count(reached, "the earlier or later of two points".into());
+        }
+    }
+}
+
+const NONE_EXTENDS: &str = "no consequent extends";
+
+/// What the antecedent's smallest matching shows: rows that are against a position before, which its point might have else, and the first
+/// consequent that extends.
+fn of_smallest(reached: &mut Reached, sheet: &Sheet, log: &Log) {
+    let antecedent = sheet.section(0);
+    let Some(smallest) = weeded::smallest(&antecedent, log) else { return };
+    let placement = Placement::of(log, &points(&antecedent), &smallest);
+    for row in antecedent.iter().filter(|row| [FREE, WITHIN, EVENT].contains(&row.kind)) {
+        let last = [row.p, row.q].into_iter().filter(|point| !is_end(*point)).max();
+        let Some(point) = antecedent.iter().find(|row| row.kind == POINT && Some(row.p) == last) else { continue };
+        let is_against = |position: u32| {
+            let mut moved = placement.clone();
+            moved.place(point.p, position);
+            meets(point, &moved, log) && !meets(row, &moved, log)
+        };
+        if (1..placement.position(point.p)).any(is_against) {
+            count(reached, format!("kind {} against a position before", row.kind));
+        }
+    }
+    let extends = |section: &u32| weeded::Plan::new(&sheet.section(*section), log).has_matching(&placement);
+    let first = (1..=sheet.k).find(extends);
+    count(reached, first.map_or(NONE_EXTENDS.into(), |section| format!("consequent {section} extends")));
+}
+
+/// Ordinary rules: every kind between the antecedent's points, limits met and missed by a millisecond, rows that narrow places, consequents that
+/// speak of the points up to any of them, later ones that extend first, and violations behind matchings that extend.
+fn narrowed_and_skipped() -> Vec<String> {
+    let between = (BEFORE..=OUTSIDE).map(|kind| format!("kind {kind} between two points"));
+    let ends = (FREE..=OUTSIDE).flat_map(|kind| ["start", "close"].map(|end| format!("kind {kind} with the {end}")));
+    let limits = ["one line with b = 0", "one line with a = 0", "two lines of one tick with b = 1"];
+    let against = [FREE, WITHIN, EVENT].map(|kind| format!("kind {kind} against a position before"));
+    let spoken_of =
+        (2..=4).flat_map(|points| (0..=points).map(move |last| format!("a consequent up to point {last} of {points}")));
+    let mut wanted: Vec<String> = between.chain(ends).chain(against).chain(spoken_of).collect();
+    wanted.extend(at_limits(WITHIN).into_iter().filter(|limits| limits.contains(PARTS[0])));
+    wanted.extend(limits.map(|limits| format!("kind {WITHIN} on {limits}")));
+    wanted.extend((1..=3).map(|section| format!("consequent {section} extends")));
+    wanted.extend([NONE_EXTENDS, "the earlier or later of two points", "violated later"].map(String::from));
+    wanted
+}
+
+#[test]
+fn rules_reach_what_is_narrowed_and_skipped() {
+    let mut reached = Reached::new();
+    for pair in (0..2000).map(rule_pair_of) {
+        let opened = open(&pair.sheet, &pair.log, Blunder::None);
+        let (sheet, log) = (opened.sheet.as_ref().expect("accepted"), opened.log.as_ref().expect("accepted"));
+        of_rule(&mut reached, sheet, log);
+        of_smallest(&mut reached, sheet, log);
+        if is_violated_later(sheet, log) {
+            count(&mut reached, "violated later".into());
+        }
+    }
+    let times = |what: &String| reached.get(what).copied().unwrap_or(0);
+    for what in narrowed_and_skipped() {
+        assert!(times(&what) >= OFTEN, "{what}: {}", times(&what));
+    }
+    let told: Vec<String> = narrowed_and_skipped().iter().map(|what| format!("{what}: {}", times(what))).collect();
+    writeln!(std::io::stderr(), "of 2000 rules: {}", told.join(", ")).unwrap();
+}
+
+/// On longer logs: every length about one word of 64 lines and two, and matchings with a point in the second word.
+#[test]
+fn longer_rules_reach_the_second_word() {
+    let mut reached = Reached::new();
+    for pair in (0..300).map(longer_rule_pair_of) {
+        let opened = open(&pair.sheet, &pair.log, Blunder::None);
+        let (sheet, log) = (opened.sheet.as_ref().expect("accepted"), opened.log.as_ref().expect("accepted"));
+        count(&mut reached, format!("n {}", log.n()));
+        let Some(smallest) = weeded::smallest(&sheet.section(0), log) else { continue };
+        count(&mut reached, "matched".into());
+        if smallest.iter().any(|position| *position >= 64) {
+            count(&mut reached, "a point in the second word".into());
+        }
+    }
+    let lengths = (62..=66).chain(126..=130).map(|n| format!("n {n}"));
+    are_reached(&reached, &lengths.chain(["matched".into(), "a point in the second word".into()]).collect::<Vec<_>>());
+    writeln!(std::io::stderr(), "of 300 rules on longer logs: {reached:?}").unwrap();
 }
 
 #[test]

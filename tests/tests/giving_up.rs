@@ -1,7 +1,7 @@
 //! Document 02, A2: the search gives up the positions of a point that is not to blame, and answers as before: on 4,000 lines, where it would else take
 //! hours, beside the reference on short logs and at random, and by the positions that it tries.
 mod common;
-use common::answers::matching;
+use common::answers::found_by_both;
 use common::{tallied, tell, tell_tally};
 use satskhubo_tests::compare::{compare, compare_long, Tally};
 use satskhubo_tests::generate::cases::{case_of, cases, Case};
@@ -9,7 +9,6 @@ use satskhubo_tests::generate::logs::{mixed, uniform};
 use satskhubo_tests::generate::pairs::{independent_pair_of, pair_of};
 use satskhubo_tests::generate::Pair;
 use satskhubo_tests::host::Host;
-use satskhubo_tests::outcome::Side;
 use satskhubo_tests::plain::tried::Tried;
 use satskhubo_tests::plain::{self, Plain};
 use satskhubo_tests::reference::log::Log;
@@ -73,23 +72,15 @@ fn late(word: &str, n: u32) -> Option<Late> {
     }
 }
 
-/// What a number matches, by the C interface and by plain Rust alike.
-fn searched(pair: &Pair, number: u64) -> Option<Vec<u32>> {
-    let search = |side: &dyn Side| side.search(&pair.sheet, &pair.log, number, MOST_POINTS);
-    let searched = search(&Host);
-    assert_eq!(searched, search(&Plain), "number {number}");
-    matching(&searched)
-}
-
 /// On 4,000 lines, the numbers of a case that match nothing, and the one line that changes it.
 fn gives_up(word: &str) {
     let Case { name, sheet, numbers, log, .. } = case(word);
     let (pair, late) = (Pair { sheet, log: log(LONG).text() }, late(word, LONG));
     for number in numbers.clone() {
-        assert_eq!(searched(&pair, number), None, "{name}, number {number}");
+        assert_eq!(found_by_both(&pair, number), None, "{name}, number {number}");
     }
     if let Some(Late { pair, number, matching }) = &late {
-        assert_eq!(searched(pair, *number).as_ref(), Some(matching), "{name}, late");
+        assert_eq!(found_by_both(pair, *number).as_ref(), Some(matching), "{name}, late");
     }
     tell(&format!("giving up: {name}"), (numbers.count() + late.iter().len()) as u64);
 }
@@ -143,7 +134,7 @@ fn free_rows_in_six_consequents() {
     let Case { sheet, numbers, log, .. } = case("all-free");
     let pair = Pair { sheet, log: log(LONG).text() };
     for number in numbers {
-        assert_eq!(searched(&pair, number), free_matching(number), "number {number}");
+        assert_eq!(found_by_both(&pair, number), free_matching(number), "number {number}");
     }
     tell("giving up: FREE rows in six consequents", 4096);
 }
@@ -154,7 +145,7 @@ fn short_logs() {
     let mut tally = Tally::default();
     for Case { word, sheet, log, .. } in cases() {
         let late = late(word, SHORT).map(|Late { pair, number, matching }| {
-            assert_eq!(searched(&pair, number), Some(matching), "{word}, late");
+            assert_eq!(found_by_both(&pair, number), Some(matching), "{word}, late");
             pair
         });
         for pair in [Pair { sheet, log: log(SHORT).text() }].into_iter().chain(late) {
@@ -191,7 +182,8 @@ fn few_positions_are_tried() {
     }
 }
 
-/// Plain Rust finds the same with giving up as without, and tries no more. Adds the numbers searched, and says whether one of them is given up sooner.
+/// Plain Rust finds the same with giving up and narrowing as without, and tries no more. Adds the numbers searched, and says whether one of them is
+/// given up sooner.
 fn tries_no_more(pair: &Pair, searches: &mut u64) -> bool {
     let count = plain::read_sheet(&pair.sheet).map_or(0, |sheet| sheet.count);
     let mut sooner = false;

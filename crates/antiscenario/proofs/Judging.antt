@@ -14,7 +14,8 @@ use Rattle.sheet.specs.Reading.{answer as sheet-answer, sheetIn}
 use Rattle.row.specs.Memory.{rowsOf}
 use Rattle.runlog.specs.declared.Answer.{Answer as LogAnswer}
 use Rattle.runlog.specs.Log.{answer as log-answer, runIn}
-use Rattle.runlog.specs.Held.{Held, Loaded, runAt}
+use Rattle.run.specs.Held.{runHeld}
+use Rattle.runlog.specs.Held.{Loaded}
 use Rattle.antiscenario.specs.declared.Judged.{Judged}
 use Rattle.antiscenario.specs.Numbers.{numberRefusal}
 use Rattle.antiscenario.specs.Held.{AntiscenarioHeld, Ready}
@@ -51,16 +52,8 @@ module _ (s l : List ℕ) (number : ℕ) where
 
 -- Reading, accepted
 
-module _ (l : List ℕ) (rl : LogAnswer) (el : rl ≡ log-answer l) (ticks events : List ℕ) (D : Loaded l ticks events) where
-  pub few-lines : rl .n ≤ 4000
-  few-lines = subst (λ (q : LogAnswer). q .n ≤ 4000) (sym el) (D .held .lines .few)
-
-  pub ready : (s : List ℕ) (number : ℕ) (out : List ℕ) (n : ℕ) → AntiscenarioHeld (sheetIn s) number out n → Ready s l number out ticks events n (rl .n)
-  ready s number out n A = record {
-    held = subst (λ (q : LogAnswer). Held ticks events (q .n)) (sym el) (D .held);
-    run-is = ap (λ (q : LogAnswer). runAt ticks events (q .n)) el ∙ ap runOf (D .is);
-    rows-held = A;
-  }
+pub ready : (l run : List ℕ) → Loaded l run → (s : List ℕ) (number : ℕ) (out : List ℕ) (n : ℕ) → AntiscenarioHeld (sheetIn s) number out n → Ready s l number out n run
+ready l run D s number out n A = record { held = D .held; blank = D .blank; run-is = ap runOf (D .is); rows-held = A }
 
 -- what is refused promises nothing of the memory
 pub promised-nothing : {A : Type 0} (r x : ℕ) → r ≡ x → (x ≡ 0 → ⊥) → r ≡ 0 → A
@@ -73,7 +66,7 @@ module _ (s l : List ℕ) (number : ℕ) (xs : List ℕ) (position-count : ℕ) 
   unfolding judgeOf
   judge-refused n = rw (sym er) (simp (ne-eqb r 0 n))
 
-  module _ (z : r ≡ 0) (rows ticks events : List ℕ) (count n : ℕ) (R : Ready s l number rows ticks events count n) (point-count : ℕ) (en : point-count ≡ length (points (rowsOf rows count))) where
+  module _ (z : r ≡ 0) (rows run : List ℕ) (count : ℕ) (R : Ready s l number rows count run) (point-count : ℕ) (en : point-count ≡ length (points (rowsOf rows count))) where
     none : refusalOf s l number ≡ 0
     none = sym er ∙ z
 
@@ -84,9 +77,9 @@ module _ (s l : List ℕ) (number : ℕ) (xs : List ℕ) (position-count : ℕ) 
     unfolding judgeOf
     wrong-number n = simp (eq-eqb (refusalOf s l number) 0 none, ne-eqb position-count (length (points (antiscenario (sheetIn s) number))) (λ e. n (e ∙ sym number-is)))
 
-    pub judged : (b : Bool) → position-count ≡ point-count → b ≡ matching (runAt ticks events n) (rowsOf rows count) (take point-count xs) → record { refusal = 0; met = b } ≡ judgeOf s l number xs position-count
+    pub judged : (b : Bool) → position-count ≡ point-count → b ≡ matching (runHeld run) (rowsOf rows count) (take point-count xs) → record { refusal = 0; met = b } ≡ judgeOf s l number xs position-count
     unfolding judgeOf
     judged b e f =
         simp (eq-eqb (refusalOf s l number) 0 none, eq-eqb position-count (length (points (antiscenario (sheetIn s) number))) (e ∙ number-is))
         (ap (λ (t : Bool). record { refusal = 0; met = t })
-        (f ∙ ap₂ (λ (run : Run) (rs : List Row). matching run rs (take point-count xs)) (R .run-is) (R .rows-held .rows-are) ∙ ap (λ (k : ℕ). matching (runIn l) (antiscenario (sheetIn s) number) (take k xs)) (sym e)))
+        (f ∙ ap₂ (λ (g : Run) (rs : List Row). matching g rs (take point-count xs)) (R .run-is) (R .rows-held .rows-are) ∙ ap (λ (k : ℕ). matching (runIn l) (antiscenario (sheetIn s) number) (take k xs)) (sym e)))

@@ -10,8 +10,9 @@ use Rattle.scenario.specs.Reading.{All, Pattern}
 use Rattle.row.specs.Memory.{linesIn, rowsOf}
 use Rattle.sheet.specs.Text.{Fits, numbersOf}
 use Rattle.sheet.specs.Reading.{sheetIn}
+use Rattle.run.specs.Maps.{Blank}
+use Rattle.run.specs.Held.{Held, runHeld}
 use Rattle.runlog.specs.Log.{runIn}
-use Rattle.runlog.specs.Held.{Held, runAt}
 
 -- Antiscenario `number` of a sheet is in memory: `count` rows, six numbers to a row.
 pub record AntiscenarioHeld (sheet : Sheet) (number : ℕ) (rows : List ℕ) (count : ℕ) : Type 0 where
@@ -25,8 +26,9 @@ pub record AntiscenarioHeld (sheet : Sheet) (number : ℕ) (rows : List ℕ) (co
   pub few : count ≤ 194
   pub room : 6 * count ≤ length rows
 
--- Antiscenario `number` of the sheet s and the log l are in memory: `count` rows, six numbers to a row, and ticks and events of n lines by position.
-pub record Ready (s l : List ℕ) (number : ℕ) (rows ticks events : List ℕ) (count n : ℕ) : Type 0 where
-  pub held : Held ticks events n
-  pub run-is : runAt ticks events n ≡ runIn l
+-- Antiscenario `number` of the sheet s and the log l are in memory: `count` rows, six numbers to a row, and the log's run, of which no maps are drawn.
+pub record Ready (s l : List ℕ) (number : ℕ) (rows : List ℕ) (count : ℕ) (run : List ℕ) : Type 0 where
+  pub held : Held run
+  pub blank : Blank run
+  pub run-is : runHeld run ≡ runIn l
   pub rows-held : AntiscenarioHeld (sheetIn s) number rows count

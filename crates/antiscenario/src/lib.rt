@@ -2,9 +2,8 @@
 ghost use mathlib.Core.Path.{_≡_};
 ghost use mathlib.Core.List.{List, _++_};
 ghost use Prim.Native.Nat.{ℕ, _+_, _*_, _≤_, _<_};
-ghost use lib.ListN.{length, take, drop};
-ghost use Rattle.runlog.specs.Numbers.{ticks-room, events-room};
-ghost use Rattle.scenario.specs.Rows.{event-count};
+ghost use lib.ListN.{length, getD, take, drop};
+ghost use Rattle.run.specs.Words.{run-room};
 ghost use Rattle.row.specs.Memory.{linesIn};
 ghost use Rattle.sheet.specs.Held.{sheetAt, SheetLoaded};
 ghost use Rattle.sheet.specs.Text.{Fits, rowText, rowsText, headText, sheetText};
@@ -85,6 +84,12 @@ pub struct LoadedRows {
     pub rows: u32,
 }
 
+fn not_loaded(refusal: u32) -> LoadedRows
+    ensures { λ r. ⌜ r .refusal ≡ refusal ⌝ }
+{
+    LoadedRows { refusal, rows: 0 }
+}
+
 // Stores antiscenario `number` of a sheet in memory, of which reading gave `read`: its rows, six numbers to a row; or "31 m not in 1 to N".
 pub fn load(rows: &[u32], read: sheet::Answer, number: u64, out: &mut [u32]) -> LoadedRows
     requires { ⌜ SheetLoaded (now rows) read × (1200 ≤ length (now out)) ⌝ }
@@ -92,10 +97,7 @@ pub fn load(rows: &[u32], read: sheet::Answer, number: u64, out: &mut [u32]) -> 
     ensures memory { λ r. ⌜ (r .refusal ≡ 0 → AntiscenarioHeld (sheetAt (now (rows .entry)) (read .rows) (read .k)) number (now (out .exit)) (r .rows)) ⌝ }
 {
     if number < 1 || read.count < number {
-        return LoadedRows {
-            refusal: NO_SUCH_NUMBER,
-            rows: 0,
-        };
+        return not_loaded(NO_SUCH_NUMBER);
     }
     let n = denial::build(rows, read.rows, read.k, read.count, number - 1, out);
     LoadedRows {
@@ -131,51 +133,28 @@ pub fn write_antiscenario(sheet: &[u8], number: u64, buf: &mut [u8]) -> Written
     }
 }
 
-// What reading an antiscenario and a log gives: the refusal or 0, how many rows the antiscenario has and how many lines the log.
-pub struct Readied {
-    pub refusal: u32,
-    pub rows: u32,
-    pub lines: u32,
-}
-
-fn not_ready(refusal: u32) -> Readied
-    ensures { λ r. ⌜ r .refusal ≡ refusal ⌝ }
-{
-    Readied {
-        refusal,
-        rows: 0,
-        lines: 0,
-    }
-}
-
-// Reads a sheet and a log, and stores antiscenario `number`, six numbers to a row, and the log by position.
+// Reads a sheet and a log, and stores antiscenario `number`, six numbers to a row, and the log in memory, in which there are zeros.
 pub fn load_antiscenario(
     sheet: &[u8],
     log: &[u8],
     number: u64,
     out: &mut [u32],
-    ticks: &mut [u32],
-    events: &mut [u32],
-) -> Readied
-    requires { ⌜ (1200 ≤ length (now out)) × (length (now ticks) ≡ ticks-room) × (length (now events) ≡ events-room) × All (λ (e : ℕ). e < event-count) (now events) ⌝ }
+    run: &mut [u64; run::ROOM],
+) -> LoadedRows
+    requires { ⌜ (1200 ≤ length (now out)) × (length (now run) ≡ run-room) × ((i : ℕ) → getD (now run) i 0 ≡ 0) ⌝ }
     ensures refusal { λ r. ⌜ r .refusal ≡ refusalOf (now (sheet .entry)) (now (log .entry)) number ⌝ }
-    ensures memory { λ r. ⌜ (r .refusal ≡ 0 → Ready (now (sheet .entry)) (now (log .entry)) number (now (out .exit)) (now (ticks .exit)) (now (events .exit)) (r .rows) (r .lines)) ⌝ }
+    ensures memory { λ r. ⌜ (r .refusal ≡ 0 → Ready (now (sheet .entry)) (now (log .entry)) number (now (out .exit)) (r .rows) (now (run .exit))) ⌝ }
 {
     let mut rows = [0u32; sheet::SHEET_ROOM];
     let read = sheet::load_sheet(sheet, &mut rows);
     if read.refusal != 0 {
-        return not_ready(read.refusal);
+        return not_loaded(read.refusal);
     }
-    let run = runlog::load_log(log, ticks, events);
-    if run.refusal != 0 {
-        return not_ready(run.refusal);
+    let log_read = runlog::load_log(log, run);
+    if log_read.refusal != 0 {
+        return not_loaded(log_read.refusal);
     }
-    let loaded = load(&rows, read, number, out);
-    Readied {
-        refusal: loaded.refusal,
-        rows: loaded.rows,
-        lines: run.n as u32,
-    }
+    load(&rows, read, number, out)
 }
 
 // A placement handed over whole: a position for each point, in order of introduction, and their number. Entries past it play no part.
@@ -206,9 +185,8 @@ pub fn judge(sheet: &[u8], log: &[u8], number: u64, placement: Placement) -> Jud
     ensures past { λ r. ⌜ ((table : List ℕ) → take (placement .count) table ≡ take (placement .count) (placement .positions) → r ≡ judgeOf (now (sheet .entry)) (now (log .entry)) number table (placement .count)) ⌝ }
 {
     let mut rows = [0u32; pattern::ROWS_ROOM];
-    let mut ticks = [0u32; runlog::TICKS_ROOM];
-    let mut events = [0u32; runlog::EVENTS_ROOM];
-    let ready = load_antiscenario(sheet, log, number, &mut rows, &mut ticks, &mut events);
+    let mut run = [0u64; run::ROOM];
+    let ready = load_antiscenario(sheet, log, number, &mut rows, &mut run);
     if ready.refusal != 0 {
         return unjudged(ready.refusal);
     }
@@ -218,9 +196,7 @@ pub fn judge(sheet: &[u8], log: &[u8], number: u64, placement: Placement) -> Jud
         return unjudged(WRONG_NUMBER_OF_POSITIONS);
     }
     let met = pattern::is_matching(
-        &ticks,
-        &events,
-        ready.lines,
+        &run,
         &rows,
         ready.rows,
         &points,

@@ -15,10 +15,11 @@ use Rattle.scenario.specs.Walk.{lowest-above, highest-below}
 use Rattle.scenario.specs.Log.{hasAt}
 use Rattle.scenario.specs.Fields.{decode, Tagged}
 use Rattle.scenario.specs.Reading.{All}
-use Rattle.runlog.specs.Held.{Held, part, runAt, orZero}
+use Rattle.run.specs.Words.{eventsIn, line-count}
+use Rattle.run.specs.Held.{Held, part, runHeld, orZero}
 use Rattle.row.specs.Memory.{sectionAt, rowAt, listed, tagAt}
 use Rattle.pattern.specs.Placing.{by}
-use Rattle.runlog.proofs.Logs.{part-length}
+use Rattle.run.proofs.Logs.{part-length}
 use Rattle.consequent.specs.Walk.{ontoIn, stayIn, advanceIn, isSome, orKeep, onward, faultIn, faulty, faultsIn}
 
 -- what is put is what was found
@@ -42,44 +43,44 @@ stay-env false E = refl
 abbrev pub Advanced : List ℕ → Option (List ℕ) → Bool → List ℕ → Type 0
 Advanced E o r E' = (r ≡ isSome o) × (E' ≡ orKeep E o)
 
-module _ (ticks events E : List ℕ) (n kind p q a b s y : ℕ) (H : Held ticks events n) (ey : y ≡ getD E q 0) where
+module _ (run E : List ℕ) (row : Row) (kind p q a b s y : ℕ) (H : Held run) (er : decode kind p q a b s ≡ row) (ey : y ≡ getD E q 0) where
   abbrev pub here : Option (List ℕ)
-  here = advanceIn (runAt ticks events n) E (decode kind p q a b s)
+  here = advanceIn (runHeld run) E row
 
   told : (o : Option (List ℕ)) (r : Bool) (E' : List ℕ) → here ≡ o → Advanced E o r E' → Advanced E here r E'
   told o r E' e g = subst (λ (z : Option (List ℕ)). Advanced E z r E') (sym e) g
 
   at-1 : kind ≡ 1 → here ≡ none
   unfolding decode advanceIn
-  at-1 k = rw k
+  at-1 k = rw (← er, k)
 
-  at-2 : kind ≡ 2 → here ≡ ontoIn E p (orZero (lowest-above (hasAt (part events n) s) y (n - y)))
+  at-2 : kind ≡ 2 → here ≡ ontoIn E p (orZero (lowest-above (hasAt (part (eventsIn run) (line-count run)) s) y (line-count run - y)))
   unfolding decode advanceIn
-  at-2 k = rw (k, ey, part-length events n (H .lines .room))
+  at-2 k = rw (← er, k, ey, part-length (eventsIn run) (line-count run) (H .lines .room))
 
-  at-3 : kind ≡ 3 → here ≡ ontoIn E p (orZero (highest-below (hasAt (part events n) s) y))
+  at-3 : kind ≡ 3 → here ≡ ontoIn E p (orZero (highest-below (hasAt (part (eventsIn run) (line-count run)) s) y))
   unfolding decode advanceIn
-  at-3 k = rw (k, ey)
+  at-3 k = rw (← er, k, ey)
 
   at-4 : kind ≡ 4 → here ≡ some (set E p (min (getD E q 0) (getD E a 0)))
   unfolding decode advanceIn
-  at-4 k = rw k
+  at-4 k = rw (← er, k)
 
   at-5 : kind ≡ 5 → here ≡ some (set E p (max (getD E q 0) (getD E a 0)))
   unfolding decode advanceIn
-  at-5 k = rw k
+  at-5 k = rw (← er, k)
 
   pub advanced-point : kind ≡ 1 → Advanced E here false E
   advanced-point k = told none false E (at-1 k) (refl, refl)
 
-  module _ (x : ℕ) (r : Bool) (E' : List ℕ) (er : r ≡ not (eqb x 0)) (ee : E' ≡ cond (eqb x 0) E (set E p x)) where
+  module _ (x : ℕ) (r : Bool) (E' : List ℕ) (ep : r ≡ not (eqb x 0)) (ee : E' ≡ cond (eqb x 0) E (set E p x)) where
     put-gone : Advanced E (ontoIn E p x) r E'
-    put-gone = (er ∙ sym (onto-met (eqb x 0) E (set E p x)), ee ∙ sym (onto-env (eqb x 0) E (set E p x)))
+    put-gone = (ep ∙ sym (onto-met (eqb x 0) E (set E p x)), ee ∙ sym (onto-env (eqb x 0) E (set E p x)))
 
-    pub advanced-next : kind ≡ 2 → x ≡ orZero (lowest-above (hasAt (part events n) s) y (n - y)) → Advanced E here r E'
+    pub advanced-next : kind ≡ 2 → x ≡ orZero (lowest-above (hasAt (part (eventsIn run) (line-count run)) s) y (line-count run - y)) → Advanced E here r E'
     advanced-next k f = told (ontoIn E p x) r E' (at-2 k ∙ ap (ontoIn E p) (sym f)) put-gone
 
-    pub advanced-last : kind ≡ 3 → x ≡ orZero (highest-below (hasAt (part events n) s) y) → Advanced E here r E'
+    pub advanced-last : kind ≡ 3 → x ≡ orZero (highest-below (hasAt (part (eventsIn run) (line-count run)) s) y) → Advanced E here r E'
     advanced-last k f = told (ontoIn E p x) r E' (at-3 k ∙ ap (ontoIn E p) (sym f)) put-gone
 
   module _ (z x : ℕ) (E' : List ℕ) (ez : z ≡ getD E a 0) (ee : E' ≡ set E p x) where
@@ -91,7 +92,7 @@ module _ (ticks events E : List ℕ) (n kind p q a b s y : ℕ) (H : Held ticks 
 
   -- the other kinds are tests
   test : (k : ℕ) → (k ≡ 1 → ⊥) → (k ≡ 2 → ⊥) → (k ≡ 3 → ⊥) → (k ≡ 4 → ⊥) → (k ≡ 5 → ⊥)
-      → advanceIn (runAt ticks events n) E (decode k p q a b s) ≡ stayIn (meets (runAt ticks events n) (by E) (decode k p q a b s)) E
+      → advanceIn (runHeld run) E (decode k p q a b s) ≡ stayIn (meets (runHeld run) (by E) (decode k p q a b s)) E
   unfolding decode advanceIn
   test zero c d e f g = refl
   test (suc zero) c d e f g = absurd (c refl)
@@ -109,9 +110,12 @@ module _ (ticks events E : List ℕ) (n kind p q a b s y : ℕ) (H : Held ticks 
   test (suc (suc (suc (suc (suc (suc (suc (suc (suc (suc (suc (suc (suc k))))))))))))) c d e f g = refl
 
   pub advanced-test : (kind ≡ 1 → ⊥) → (kind ≡ 2 → ⊥) → (kind ≡ 3 → ⊥) → (kind ≡ 4 → ⊥) → (kind ≡ 5 → ⊥)
-      → (r : Bool) → r ≡ meets (runAt ticks events n) (by E) (decode kind p q a b s) → Advanced E here r E
-  advanced-test c d e f g r er =
-      told (stayIn r E) r E (test kind c d e f g ∙ ap (λ (t : Bool). stayIn t E) (sym er)) (sym (stay-met r E), sym (stay-env r E))
+      → (r : Bool) → r ≡ meets (runHeld run) (by E) row → Advanced E here r E
+  advanced-test c d e f g r em =
+      told (stayIn r E) r E (tested ∙ ap (λ (t : Bool). stayIn t E) (sym em)) (sym (stay-met r E), sym (stay-env r E))
+    where
+      tested : here ≡ stayIn (meets (runHeld run) (by E) row) E
+      tested = rw (← er) (test kind c d e f g)
 
 -- One row further: what holds of the array, and wherever the row puts its own point, holds of what it leaves.
 module _ (run : Run) (E : List ℕ) (P : List ℕ → Type 0) (was : P E) where
@@ -179,25 +183,23 @@ module _ (run : Run) (rows : List ℕ) (count i : ℕ) (E : List ℕ) (j : ℕ) 
       pub skip : (s ≡ i → ⊥) → rest E j ≡ rest E (j + 1)
       skip n = fault-other (λ e. n (es ∙ e))
 
-      module _ (si : s ≡ i) (k : Row) (ek : k ≡ rowAt rows j) (r : Bool) (er : r ≡ isSome (advanceIn run E k)) where
+      module _ (si : s ≡ i) (r : Bool) (er : r ≡ isSome (advanceIn run E (rowAt rows j))) where
         pub stuck : r ≡ false → rest E j ≡ j + 1
-        stuck f = fault-here (sym es ∙ si) (ap (λ (z : Row). isSome (advanceIn run E z)) (sym ek) ∙ sym er ∙ f)
+        stuck f = fault-here (sym es ∙ si) (sym er ∙ f)
 
-        pub passed : (E' : List ℕ) → E' ≡ orKeep E (advanceIn run E k) → r ≡ true → rest E j ≡ rest E' (j + 1)
-        passed E' ee f =
-            fault-on (sym es ∙ si) (ap (λ (z : Row). isSome (advanceIn run E z)) (sym ek) ∙ sym er ∙ f)
-            ∙ ap (λ (z : List ℕ). rest z (j + 1)) (sym (ee ∙ ap (λ (z : Row). orKeep E (advanceIn run E z)) ek))
+        pub passed : (E' : List ℕ) → E' ≡ orKeep E (advanceIn run E (rowAt rows j)) → r ≡ true → rest E j ≡ rest E' (j + 1)
+        passed E' ee f = fault-on (sym es ∙ si) (sym er ∙ f) ∙ ap (λ (z : List ℕ). rest z (j + 1)) (sym ee)
 
 -- Consequents
 
 module _ (run : Run) (ts : List Tagged) (E : List ℕ) (c k : ℕ) (rows : List ℕ) where
-  pub faults-end : k ≤ c → faultsIn run ts E c (k - c) rows ≡ faulty true rows
+  pub faults-end : k ≤ c → faultsIn run ts E c (k - c) rows ≡ faulty 0 rows
   unfolding faultsIn
   faults-end h = let e : k - c ≡ 0 = omega arith in rw e
 
-  pub faults-none : c < k → faultIn run (c + 1) E 0 ts ≡ 0 → faultsIn run ts E c (k - c) rows ≡ faulty false (replicate 6 0)
+  pub faults-none : c < k → faultIn run (c + 1) E 0 ts ≡ 0 → faultsIn run ts E c (k - c) rows ≡ faulty (c + 1) (replicate 6 0)
   unfolding faultsIn
-  faults-none h z = let e : k - c ≡ suc (k - (c + 1)) = omega arith in let v = rw add-one at z in rw (e, v)
+  faults-none h z = let e : k - c ≡ suc (k - (c + 1)) = omega arith in let v = rw add-one at z in rw (e, v, add-one c)
 
   pub faults-on : c < k → (f : ℕ) → faultIn run (c + 1) E 0 ts ≡ f → (f ≡ 0 → ⊥) → faultsIn run ts E c (k - c) rows ≡ faultsIn run ts E (c + 1) (k - (c + 1)) (set rows c f)
   unfolding faultsIn

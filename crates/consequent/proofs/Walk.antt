@@ -27,7 +27,7 @@ use Rattle.scenario.proofs.Reading.{sound}
 use Rattle.row.proofs.Memory.{listed-mem}
 use Rattle.row.specs.Memory.{sectionAt, rowAt, tagAt, tagsOf}
 use Rattle.pattern.specs.Placing.{by}
-use Rattle.runlog.specs.Held.{orZero}
+use Rattle.run.specs.Held.{orZero}
 use Rattle.consequent.specs.Walk.{ontoIn, stayIn, advanceIn, orKeep, onward, faultIn, Elsewhere, Kept}
 use Rattle.sheet.specs.Held.{sheetAt, SheetHeld}
 use Rattle.consequent.proofs.Advancing.{advance-leaves}
@@ -219,17 +219,17 @@ pub kept-on : (ts : List Tagged) (E E' E″ : List ℕ) → Kept ts E E' → Kep
 kept-on ts E E' E″ K K' = record { size = K' .size ∙ K .size; same = λ m o. K' .same m o ∙ K .same m o }
 
 -- row j of consequent c + 1
-pub row-keeps : (run : Run) (rows : List ℕ) (count : ℕ) (E E' : List ℕ) (j c s : ℕ) → j < count → s ≡ sectionAt rows j → s ≡ c + 1 → (r : Row) → r ≡ rowAt rows j → E' ≡ orKeep E (advanceIn run E r)
+pub row-keeps : (run : Run) (rows : List ℕ) (count : ℕ) (E E' : List ℕ) (j c s : ℕ) → j < count → s ≡ sectionAt rows j → s ≡ c + 1 → E' ≡ orKeep E (advanceIn run E (rowAt rows j))
     → Kept (tagsOf rows count) E E'
 unfolding tagsOf
-row-keeps run rows count E E' j c s h es sc r er ee = record {
+row-keeps run rows count E E' j c s h es sc ee = record {
   size = left (λ (z : List ℕ). length z ≡ length E) refl (λ x. all-elem (λ (p : ℕ). length (set E p x) ≡ length E) (introduced (rowAt rows j)) (λ p t. length-set E p x));
   same = λ m o. left (λ (z : List ℕ). getD z m 0 ≡ getD E m 0) refl
       (λ x. all-map (λ p n. getD-set-other E p m x 0 n) (introduced (rowAt rows j)) (all-at (Elsewhere m) (listed-mem (tagAt rows) 0 count j (omega arith) (omega arith)) o (λ z. omega arith)));
 }
   where
     left : (P : List ℕ → Type 0) → P E → ((x : ℕ) → All (λ (p : ℕ). P (set E p x)) (introduced (rowAt rows j))) → P E'
-    left P was f = subst P (sym (ee ∙ ap (λ (z : Row). orKeep E (advanceIn run E z)) er)) (advance-leaves run E P was (rowAt rows j) f)
+    left P was f = subst P (sym ee) (advance-leaves run E P was (rowAt rows j) f)
 
 -- Of a sheet in memory
 module _ (rows : List ℕ) (count k : ℕ) (S : SheetHeld rows count k) where

@@ -12,7 +12,7 @@ use Rattle.scenario.specs.Walk.{lowest-above, highest-below}
 use Rattle.scenario.specs.Fields.{Tagged}
 use Rattle.scenario.specs.Reading.{All}
 use Rattle.pattern.specs.Placing.{by}
-use Rattle.runlog.specs.Held.{orZero}
+use Rattle.run.specs.Held.{orZero}
 use Rattle.consequent.specs.declared.Faults.{Faults}
 
 -- p at the position found, 0 for none
@@ -55,14 +55,14 @@ faultIn run i E j [] = 0
 faultIn run i E j (t ∷ ts) =
     cond (eqb (t .section) i) (onward (advanceIn run E (t .row)) (suc j) (λ E'. faultIn run i E' (suc j) ts)) (faultIn run i E (suc j) ts)
 
-abbrev pub faulty : Bool → List ℕ → Faults
-faulty all rows = record { all = all; rows = rows }
+abbrev pub faulty : (met : ℕ) → List ℕ → Faults
+faulty met rows = record { met = met; rows = rows }
 
--- the same of the consequents from c + 1 on, `left` of them, with those so far; where one is met, all is false and there are no rows
+-- the same of the consequents from c + 1 on, `left` of them, with those so far; where one is met, it is told which, and there are no rows
 unfoldable pub faultsIn : Run → List Tagged → List ℕ → (c left : ℕ) → List ℕ → Faults
-faultsIn run ts E c zero rows = faulty true rows
+faultsIn run ts E c zero rows = faulty 0 rows
 faultsIn run ts E c (suc left) rows =
-    cond (eqb (faultIn run (suc c) E 0 ts) 0) (faulty false (replicate 6 0)) (faultsIn run ts E (suc c) left (set rows c (faultIn run (suc c) E 0 ts)))
+    cond (eqb (faultIn run (suc c) E 0 ts) 0) (faulty (suc c) (replicate 6 0)) (faultsIn run ts E (suc c) left (set rows c (faultIn run (suc c) E 0 ts)))
 
 -- Where t is a row of a consequent, it does not introduce the point m.
 abbrev pub Elsewhere : ℕ → Tagged → Type 0

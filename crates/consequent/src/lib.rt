@@ -1,19 +1,19 @@
 // The walk over a consequent: a row further, and the first row that cannot be met.
 ghost use mathlib.Core.Path.{_≡_};
 ghost use mathlib.Core.Bool.{not, cond};
+ghost use Prim.Native.Nat.{_<_};
 ghost use lib.ListN.{length, set, replicate};
 ghost use lib.Dec.{eqb};
 ghost use Rattle.scenario.specs.Reading.{point-numbers};
-ghost use Rattle.runlog.specs.Held.{Held, runAt};
-ghost use Rattle.scenario.specs.Fields.{decode};
-ghost use Rattle.row.specs.Memory.{tagsOf};
+ghost use Rattle.run.specs.Held.{Held, runHeld};
+ghost use Rattle.row.specs.Memory.{rowAt, tagsOf};
 ghost use Rattle.consequent.specs.Walk.{advanceIn, isSome, orKeep, faultsIn, Kept};
 ghost use Rattle.sheet.specs.Held.{SheetHeld};
 
-// Whether each consequent has a row at fault, and these rows.
+// The rows at fault, one to a consequent, where each has one; else the first consequent that has none, from 1.
 pub struct Faults {
     pub rows: [u32; 6],
-    pub all: bool,
+    pub met: u32,
 }
 
 // Puts a position that was found as that of point p; 0 is none.
@@ -28,18 +28,18 @@ fn put(positions: &mut [u32], p: u32, x: u32) -> bool
     true
 }
 
-// One row further: its point is placed, or its test is passed; or it cannot be met, and the positions stay.
+// Row j, and one row further: its point is placed, or its test is passed; or it cannot be met, and the positions stay.
 pub fn advance(
-    ticks: &[u32; runlog::TICKS_ROOM],
-    events: &[u32; runlog::EVENTS_ROOM],
-    n: u32,
+    run: &[u64; run::ROOM],
     positions: &mut [u32; pattern::POINT_NUMBERS],
-    row: pattern::Row,
+    rows: &[u32; pattern::ROWS_ROOM],
+    j: u32,
 ) -> bool
-    requires { ⌜ Held (now ticks) (now events) n ⌝ }
-    ensures met { λ r. ⌜ r ≡ isSome (advanceIn (runAt (now (ticks .entry)) (now (events .entry)) n) (now (positions .entry)) (decode (row .kind) (row .p) (row .q) (row .a) (row .b) (row .set))) ⌝ }
-    ensures placed { λ _. ⌜ now (positions .exit) ≡ orKeep (now (positions .entry)) (advanceIn (runAt (now (ticks .entry)) (now (events .entry)) n) (now (positions .entry)) (decode (row .kind) (row .p) (row .q) (row .a) (row .b) (row .set))) ⌝ }
+    requires { ⌜ Held (now run) × (j < 200) ⌝ }
+    ensures met { λ r. ⌜ r ≡ isSome (advanceIn (runHeld (now (run .entry))) (now (positions .entry)) (rowAt (now (rows .entry)) j)) ⌝ }
+    ensures placed { λ _. ⌜ now (positions .exit) ≡ orKeep (now (positions .entry)) (advanceIn (runHeld (now (run .entry))) (now (positions .entry)) (rowAt (now (rows .entry)) j)) ⌝ }
 {
+    let row = pattern::row_at(rows, j);
     let kind = row.kind;
     let set = row.set;
     let y = pattern::at(positions, row.q);
@@ -47,37 +47,35 @@ pub fn advance(
         return false;
     }
     if kind == 2 {
-        return put(positions, row.p, runlog::first_after(events, n, set, y));
+        return put(positions, row.p, maps::first_after(run, set, y));
     }
     if kind == 3 {
-        return put(positions, row.p, runlog::last_before(events, n, set, y));
+        return put(positions, row.p, maps::last_before(run, set, y));
     }
     if kind == 4 {
-        let x = runlog::lower(y, pattern::at(positions, row.a));
+        let x = run::lower(y, pattern::at(positions, row.a));
         row::store(positions, row.p as usize, x);
         return true;
     }
     if kind == 5 {
-        let x = runlog::higher(y, pattern::at(positions, row.a));
+        let x = run::higher(y, pattern::at(positions, row.a));
         row::store(positions, row.p as usize, x);
         return true;
     }
-    pattern::meets(ticks, events, n, positions, row)
+    pattern::meets(run, positions, rows, j)
 }
 
-// For each consequent the first row that cannot be met, over these positions; all is false where a consequent has none.
+// For each consequent the first row that cannot be met, over these positions; or the first consequent all of whose rows can be.
 // The rows place their consequent's points among them: no other consequent uses them.
 pub fn at_fault(
-    ticks: &[u32; runlog::TICKS_ROOM],
-    events: &[u32; runlog::EVENTS_ROOM],
-    n: u32,
+    run: &[u64; run::ROOM],
     rows: &[u32; pattern::ROWS_ROOM],
     count: u32,
     k: u32,
     positions: &mut [u32; pattern::POINT_NUMBERS],
 ) -> Faults
-    requires { ⌜ Held (now ticks) (now events) n × SheetHeld (now rows) count k × (length (now positions) ≡ point-numbers) ⌝ }
-    ensures faults { λ r. ⌜ r ≡ faultsIn (runAt (now (ticks .entry)) (now (events .entry)) n) (tagsOf (now (rows .entry)) count) (now (positions .entry)) 0 k (replicate 6 0) ⌝ }
+    requires { ⌜ Held (now run) × SheetHeld (now rows) count k × (length (now positions) ≡ point-numbers) ⌝ }
+    ensures faults { λ r. ⌜ r ≡ faultsIn (runHeld (now (run .entry))) (tagsOf (now (rows .entry)) count) (now (positions .entry)) 0 k (replicate 6 0) ⌝ }
     ensures kept { λ _. ⌜ Kept (tagsOf (now (rows .entry)) count) (now (positions .entry)) (now (positions .exit)) ⌝ }
 {
     let mut faults = [0u32; 6];
@@ -92,7 +90,7 @@ pub fn at_fault(
                 j += 1;
                 continue 'rows;
             }
-            if !advance(ticks, events, n, positions, pattern::row_at(rows, j)) {
+            if !advance(run, positions, rows, j) {
                 break 'rows j + 1;
             }
             j += 1;
@@ -100,7 +98,7 @@ pub fn at_fault(
         if row == 0 {
             return Faults {
                 rows: [0; 6],
-                all: false,
+                met: c + 1,
             };
         }
         let i = c as usize;
@@ -109,6 +107,6 @@ pub fn at_fault(
     }
     Faults {
         rows: faults,
-        all: true,
+        met: 0,
     }
 }

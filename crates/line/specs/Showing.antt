@@ -5,7 +5,7 @@ use mathlib.Core.List.{List}
 use Prim.Native.Nat.{ℕ, _+_, _-_, _*_, _≤_, min}
 use lib.ListN.{length, take, drop}
 use lib.Dec.{eqb, leb}
-use Rattle.runlog.specs.Numbers.{most-lines}
+use Rattle.scenario.specs.Log.{most-lines}
 use Rattle.sheet.specs.Reading.{answer as sheet-answer}
 use Rattle.runlog.specs.Log.{answer as log-answer}
 use Rattle.line.specs.declared.Part.{Part}

@@ -72,9 +72,8 @@ pub fn shown_part(sheet: &[u8], log: &[u8]) -> Part
     if s.refusal != 0 {
         return line_part(sheet, false, 7, 35, 4, 10, s.refusal, s.row);
     }
-    let mut ticks = [0u32; runlog::TICKS_ROOM];
-    let mut events = [0u32; runlog::EVENTS_ROOM];
-    let l = runlog::load_log(log, &mut ticks, &mut events);
+    let mut run = [0u64; run::ROOM];
+    let l = runlog::load_log(log, &mut run);
     if l.refusal != 0 {
         return line_part(log, true, 28, 15, 24, 26, l.refusal, l.line);
     }

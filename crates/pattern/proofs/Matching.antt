@@ -16,8 +16,9 @@ use Rattle.scenario.specs.Reading.{All, Ordinary, Pattern}
 use Rattle.scenario.proofs.Base.{all-map, all-elem, elem-at, elem-front, elem-back}
 use Rattle.scenario.proofs.Rules.{Fixed, meets-same}
 use Rattle.scenario.proofs.Place.{env-map}
-use Rattle.runlog.specs.Held.{Held, runAt}
-use Rattle.runlog.proofs.Logs.{part-length}
+use Rattle.run.specs.Words.{eventsIn, line-count}
+use Rattle.run.specs.Held.{Held, runHeld}
+use Rattle.run.proofs.Logs.{part-length}
 use Rattle.row.specs.Memory.{rowAt, listed}
 use Rattle.pattern.specs.Placing.{puts, isPosition, by}
 use Rattle.pattern.proofs.Placing.{puts-keep, puts-read}
@@ -53,12 +54,12 @@ module _ (run : Run) (e : Env) (rows : List ℕ) (count j : ℕ) where
   unfolding all listed
   met-step h = let k : count - j ≡ suc (count - (j + 1)) = omega arith in rw (k, add-one j)
 
-  module _ (row : Row) (q : row ≡ rowAt rows j) (h : j < count) where
-    pub met-on : meets run e row ≡ true → all (meets run e) (listed (rowAt rows) (j + 1) (count - (j + 1))) ≡ all (meets run e) (listed (rowAt rows) j (count - j))
-    met-on t = sym (met-step h ∙ ap (λ (b : Bool). b && all (meets run e) (listed (rowAt rows) (j + 1) (count - (j + 1)))) (sym (ap (meets run e) q) ∙ t))
+  module _ (h : j < count) where
+    pub met-on : meets run e (rowAt rows j) ≡ true → all (meets run e) (listed (rowAt rows) (j + 1) (count - (j + 1))) ≡ all (meets run e) (listed (rowAt rows) j (count - j))
+    met-on t = sym (met-step h ∙ ap (λ (b : Bool). b && all (meets run e) (listed (rowAt rows) (j + 1) (count - (j + 1)))) t)
 
-    pub met-not : meets run e row ≡ false → false ≡ all (meets run e) (listed (rowAt rows) j (count - j))
-    met-not t = sym (met-step h ∙ ap (λ (b : Bool). b && all (meets run e) (listed (rowAt rows) (j + 1) (count - (j + 1)))) (sym (ap (meets run e) q) ∙ t))
+    pub met-not : meets run e (rowAt rows j) ≡ false → false ≡ all (meets run e) (listed (rowAt rows) j (count - j))
+    met-not t = sym (met-step h ∙ ap (λ (b : Bool). b && all (meets run e) (listed (rowAt rows) (j + 1) (count - (j + 1)))) t)
 
   pub met-end : count ≤ j → true ≡ all (meets run e) (listed (rowAt rows) j (count - j))
   unfolding all listed
@@ -103,12 +104,12 @@ unfolding matching
 matching-off run rs xs l a = rw (eq-eqb (length xs) (length (points rs)) l, a)
 
 -- Over a log in memory, by how the test ends: the points stand at the front of a table, and as many positions at the front of xs
-module _ (ticks events : List ℕ) (n : ℕ) (H : Held ticks events n) (rs : List Row) (table xs : List ℕ) (point-count : ℕ) (en : point-count ≡ length (points rs)) (ep : take point-count table ≡ points rs) (hx : point-count ≤ length xs) where
-  line-is : (z : ℕ) → isPosition n z ≡ is-line (runAt ticks events n) z
+module _ (run : List ℕ) (H : Held run) (n : ℕ) (el : n ≡ line-count run) (rs : List Row) (table xs : List ℕ) (point-count : ℕ) (en : point-count ≡ length (points rs)) (ep : take point-count table ≡ points rs) (hx : point-count ≤ length xs) where
+  line-is : (z : ℕ) → isPosition n z ≡ is-line (runHeld run) z
   unfolding isPosition is-line
-  line-is z = rw (part-length events n (H .lines .room))
+  line-is z = rw (el, part-length (eventsIn run) (line-count run) (H .lines .room))
 
-  lines-are : (zs : List ℕ) → all (isPosition n) zs ≡ all (is-line (runAt ticks events n)) zs
+  lines-are : (zs : List ℕ) → all (isPosition n) zs ≡ all (is-line (runHeld run)) zs
   unfolding all
   lines-are [] = refl
   lines-are (z ∷ zs) = ap₂ _&&_ (line-is z) (lines-are zs)
@@ -119,13 +120,13 @@ module _ (ticks events : List ℕ) (n : ℕ) (H : Held ticks events n) (rs : Lis
   pub points-room : point-count ≤ length table
   points-room = omega (arith, length-take point-count table, ap length ep, en)
 
-  pub placement-off : (b : Bool) → b ≡ all (isPosition n) (take point-count xs) → b ≡ false → false ≡ matching (runAt ticks events n) rs (take point-count xs)
-  placement-off b e f = matching-off (runAt ticks events n) rs (take point-count xs) size-is (sym (lines-are (take point-count xs)) ∙ sym e ∙ f)
+  pub placement-off : (b : Bool) → b ≡ all (isPosition n) (take point-count xs) → b ≡ false → false ≡ matching (runHeld run) rs (take point-count xs)
+  placement-off b e f = matching-off (runHeld run) rs (take point-count xs) size-is (sym (lines-are (take point-count xs)) ∙ sym e ∙ f)
 
   pub placement-met : Pattern rs → (b : Bool) → b ≡ all (isPosition n) (take point-count xs) → b ≡ true → (E : List ℕ) → E ≡ puts (set (replicate 100 0) 99 (n + 1)) (take point-count table) (take point-count xs)
-      → (r : Bool) → r ≡ all (meets (runAt ticks events n) (by E)) rs → r ≡ matching (runAt ticks events n) rs (take point-count xs)
+      → (r : Bool) → r ≡ all (meets (runHeld run) (by E)) rs → r ≡ matching (runHeld run) rs (take point-count xs)
   placement-met R b e f E g r h =
       h
-      ∙ ap (λ (z : List ℕ). all (meets (runAt ticks events n) (by z)) rs) (g ∙ ap (λ (ps : List ℕ). puts (set (replicate 100 0) 99 (n + 1)) ps (take point-count xs)) ep)
-      ∙ matching-met (runAt ticks events n) rs R (set (replicate 100 0) 99 (n + 1)) (take point-count xs) refl
-      (rw (part-length events n (H .lines .room), add-one n)) (length-set (replicate 100 0) 99 (n + 1)) size-is (sym (lines-are (take point-count xs)) ∙ sym e ∙ f)
+      ∙ ap (λ (z : List ℕ). all (meets (runHeld run) (by z)) rs) (g ∙ ap (λ (ps : List ℕ). puts (set (replicate 100 0) 99 (n + 1)) ps (take point-count xs)) ep)
+      ∙ matching-met (runHeld run) rs R (set (replicate 100 0) 99 (n + 1)) (take point-count xs) refl
+      (rw (el, part-length (eventsIn run) (line-count run) (H .lines .room), add-one (line-count run))) (length-set (replicate 100 0) 99 (n + 1)) size-is (sym (lines-are (take point-count xs)) ∙ sym e ∙ f)

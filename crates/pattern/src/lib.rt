@@ -8,7 +8,8 @@ ghost use Rattle.scenario.specs.Rows.{set-of as setOf, clear as clearOf, meets 
 ghost use Rattle.scenario.specs.Log.{hasAt};
 ghost use Rattle.scenario.specs.Sheet.{all, matching};
 ghost use Rattle.scenario.specs.Reading.{Pattern, most-points};
-ghost use Rattle.runlog.specs.Held.{Events, Held, part, runAt, bare};
+ghost use Rattle.run.specs.Words.{eventsIn, line-count};
+ghost use Rattle.run.specs.Held.{Held, part, bare, runHeld};
 ghost use Rattle.pattern.specs.Meeting.{placedBy, orderedBy};
 ghost use Rattle.scenario.specs.Fields.{decode};
 ghost use Rattle.row.specs.Memory.{rowAt, rowsOf};
@@ -24,9 +25,6 @@ pub const MOST_POINTS: usize = 58;
 
 // Room for 200 rows, more than an antiscenario has, six numbers to a row.
 pub const ROWS_ROOM: usize = 1200;
-
-// 2^32: what a 1 of the upper half counts in a set.
-pub const UPPER_ONE: u64 = 4294967296;
 
 // A row's five numbers, and the set whose halves a and b are where the kind has one.
 pub struct Row {
@@ -53,7 +51,7 @@ pub fn at(positions: &[u32], p: u32) -> u32
 pub fn set_of(a: u32, b: u32) -> u64
     ensures { λ r. ⌜ r ≡ setOf a b ⌝ }
 {
-    a as u64 + UPPER_ONE * b as u64
+    a as u64 + run::UPPER_ONE * b as u64
 }
 
 // Row j of rows in memory, six numbers to a row.
@@ -75,48 +73,48 @@ pub fn row_at(rows: &[u32; ROWS_ROOM], j: u32) -> Row
 }
 
 // Whether x is the first position after y with its event in s.
-fn follows(events: &[u32], n: u32, s: u64, x: u32, y: u32) -> bool
-    requires { ⌜ Events (now events) n ⌝ }
-    ensures { λ r. ⌜ r ≡ (ltb y x && hasAt (part (now (events .entry)) n) s x && clearOf (bare (now (events .entry)) n) s y x) ⌝ }
+fn follows(run: &[u64; run::ROOM], s: u64, x: u32, y: u32) -> bool
+    requires { ⌜ Held (now run) ⌝ }
+    ensures { λ r. ⌜ r ≡ (ltb y x && hasAt (part (eventsIn (now (run .entry))) (line-count (now (run .entry)))) s x && clearOf (bare (eventsIn (now (run .entry))) (line-count (now (run .entry)))) s y x) ⌝ }
 {
     if x <= y {
         return false;
     }
-    if !runlog::has(events, n, s, x) {
+    if !run::has(run, s, x) {
         return false;
     }
-    runlog::clear(events, n, s, y, x)
+    maps::clear(run, s, y, x)
 }
 
 // Whether x is the last position before y with its event in s.
-fn precedes(events: &[u32], n: u32, s: u64, x: u32, y: u32) -> bool
-    requires { ⌜ Events (now events) n ⌝ }
-    ensures { λ r. ⌜ r ≡ (ltb x y && hasAt (part (now (events .entry)) n) s x && clearOf (bare (now (events .entry)) n) s x y) ⌝ }
+fn precedes(run: &[u64; run::ROOM], s: u64, x: u32, y: u32) -> bool
+    requires { ⌜ Held (now run) ⌝ }
+    ensures { λ r. ⌜ r ≡ (ltb x y && hasAt (part (eventsIn (now (run .entry))) (line-count (now (run .entry)))) s x && clearOf (bare (eventsIn (now (run .entry))) (line-count (now (run .entry)))) s x y) ⌝ }
 {
     if y <= x {
         return false;
     }
-    if !runlog::has(events, n, s, x) {
+    if !run::has(run, s, x) {
         return false;
     }
-    runlog::clear(events, n, s, x, y)
+    maps::clear(run, s, x, y)
 }
 
 // The rules of kinds 2 to 5.
-fn placed(events: &[u32], n: u32, kind: u32, s: u64, x: u32, y: u32, z: u32) -> bool
-    requires { ⌜ Events (now events) n ⌝ }
-    ensures { λ r. ⌜ r ≡ placedBy (bare (now (events .entry)) n) kind s x y z ⌝ }
+fn placed(run: &[u64; run::ROOM], kind: u32, s: u64, x: u32, y: u32, z: u32) -> bool
+    requires { ⌜ Held (now run) ⌝ }
+    ensures { λ r. ⌜ r ≡ placedBy (bare (eventsIn (now (run .entry))) (line-count (now (run .entry)))) kind s x y z ⌝ }
 {
     if kind == 2 {
-        return follows(events, n, s, x, y);
+        return follows(run, s, x, y);
     }
     if kind == 3 {
-        return precedes(events, n, s, x, y);
+        return precedes(run, s, x, y);
     }
     if kind == 4 {
-        return x == runlog::lower(y, z);
+        return x == run::lower(y, z);
     }
-    x == runlog::higher(y, z)
+    x == run::higher(y, z)
 }
 
 // The rules of kinds 6 to 8.
@@ -132,29 +130,29 @@ fn ordered(kind: u32, x: u32, y: u32) -> bool
     x == y
 }
 
-// "Kinds of row and when a placement meets them": whether the row is met where its points have these positions, by point number.
+// "Kinds of row and when a placement meets them": whether row j of rows in memory is met where its points have these positions, by point number.
 pub fn meets(
-    ticks: &[u32; runlog::TICKS_ROOM],
-    events: &[u32; runlog::EVENTS_ROOM],
-    n: u32,
+    run: &[u64; run::ROOM],
     positions: &[u32; POINT_NUMBERS],
-    row: Row,
+    rows: &[u32; ROWS_ROOM],
+    j: u32,
 ) -> bool
-    requires { ⌜ Held (now ticks) (now events) n ⌝ }
-    ensures { λ r. ⌜ r ≡ meetsOf (runAt (now (ticks .entry)) (now (events .entry)) n) (by (now (positions .entry))) (decode (row .kind) (row .p) (row .q) (row .a) (row .b) (row .set)) ⌝ }
+    requires { ⌜ Held (now run) × (j < 200) ⌝ }
+    ensures { λ r. ⌜ r ≡ meetsOf (runHeld (now (run .entry))) (by (now (positions .entry))) (rowAt (now (rows .entry)) j) ⌝ }
 {
+    let row = row_at(rows, j);
     let kind = row.kind;
     let set = row.set;
     let x = at(positions, row.p);
     let y = at(positions, row.q);
     match kind {
-        1 => runlog::has(events, n, set, x),
-        2..=5 => placed(events, n, kind, set, x, y, at(positions, row.a)),
+        1 => run::has(run, set, x),
+        2..=5 => placed(run, kind, set, x, y, at(positions, row.a)),
         6..=8 => ordered(kind, x, y),
-        9 => runlog::clear(events, n, set, x, y),
-        10 => runlog::near(ticks, n, x, y, row.a, row.b),
-        11 => !runlog::near(ticks, n, x, y, row.a, row.b),
-        12 => runlog::has(events, n, set, x),
+        9 => maps::clear(run, set, x, y),
+        10 => run::near(run, x, y, row.a, row.b),
+        11 => !run::near(run, x, y, row.a, row.b),
+        12 => run::has(run, set, x),
         _ => false,
     }
 }
@@ -222,19 +220,17 @@ fn all_lines(positions: &[u32], point_count: u32, n: u32) -> bool
 
 // Whether all rows are met where their points have these positions, by point number.
 fn all_met(
-    ticks: &[u32; runlog::TICKS_ROOM],
-    events: &[u32; runlog::EVENTS_ROOM],
-    n: u32,
+    run: &[u64; run::ROOM],
     positions: &[u32; POINT_NUMBERS],
     rows: &[u32; ROWS_ROOM],
     count: u32,
 ) -> bool
-    requires { ⌜ Held (now ticks) (now events) n × (count ≤ 200) ⌝ }
-    ensures { λ r. ⌜ r ≡ all (meetsOf (runAt (now (ticks .entry)) (now (events .entry)) n) (by (now (positions .entry)))) (rowsOf (now (rows .entry)) count) ⌝ }
+    requires { ⌜ Held (now run) × (count ≤ 200) ⌝ }
+    ensures { λ r. ⌜ r ≡ all (meetsOf (runHeld (now (run .entry))) (by (now (positions .entry)))) (rowsOf (now (rows .entry)) count) ⌝ }
 {
     let mut j: u32 = 0;
     while j < count {
-        if !meets(ticks, events, n, positions, row_at(rows, j)) {
+        if !meets(run, positions, rows, j) {
             return false;
         }
         j += 1;
@@ -244,23 +240,22 @@ fn all_met(
 
 // Whether the first `point_count` positions are a matching of the rows, whose points, in order of introduction, are the first of `points`, as many.
 pub fn is_matching(
-    ticks: &[u32; runlog::TICKS_ROOM],
-    events: &[u32; runlog::EVENTS_ROOM],
-    n: u32,
+    run: &[u64; run::ROOM],
     rows: &[u32; ROWS_ROOM],
     count: u32,
     points: &[u32],
     point_count: u32,
     positions: &[u32],
 ) -> bool
-    requires { ⌜ Held (now ticks) (now events) n × (count ≤ 200) × Pattern (rowsOf (now rows) count) × («point_count» ≡ length (pointsOf (rowsOf (now rows) count))) × (take «point_count» (now points) ≡ pointsOf (rowsOf (now rows) count)) × («point_count» ≤ length (now positions)) ⌝ }
-    ensures { λ r. ⌜ r ≡ matching (runAt (now (ticks .entry)) (now (events .entry)) n) (rowsOf (now (rows .entry)) count) (take «point_count» (now (positions .entry))) ⌝ }
+    requires { ⌜ Held (now run) × (count ≤ 200) × Pattern (rowsOf (now rows) count) × («point_count» ≡ length (pointsOf (rowsOf (now rows) count))) × (take «point_count» (now points) ≡ pointsOf (rowsOf (now rows) count)) × («point_count» ≤ length (now positions)) ⌝ }
+    ensures { λ r. ⌜ r ≡ matching (runHeld (now (run .entry))) (rowsOf (now (rows .entry)) count) (take «point_count» (now (positions .entry))) ⌝ }
 {
+    let n = run::lines(run);
     if !all_lines(positions, point_count, n) {
         return false;
     }
     let mut standing = [0u32; POINT_NUMBERS];
     standing[CLOSE] = n + 1;
     put_points(points, positions, point_count, &mut standing);
-    all_met(ticks, events, n, &standing, rows, count)
+    all_met(run, &standing, rows, count)
 }

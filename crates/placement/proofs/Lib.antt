@@ -1,11 +1,9 @@
-pub mod Standing
 pub mod Placing
-pub mod Found
-pub mod Matchings
-pub mod Turn
-pub mod Following
 pub mod Jump
 pub mod Blame
-pub mod Nowhere
+pub mod Turn
+pub mod Order
+pub mod Found
+pub mod Following
 pub mod Onward
 pub mod Starting

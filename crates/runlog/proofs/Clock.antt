@@ -21,7 +21,7 @@ above last [] close o j = o
 above last (t ∷ ts) close o zero = o .0
 above last (t ∷ ts) close o (suc j) = omega (arith, o .0, above t ts close (o .1) j)
 
-rising : (last : ℕ) (ticks : List ℕ) (close : ℕ) → Ordered last ticks close → (i j : ℕ) → i ≤ j → getD ticks i close ≤ getD ticks j close
+pub rising : (last : ℕ) (ticks : List ℕ) (close : ℕ) → Ordered last ticks close → (i j : ℕ) → i ≤ j → getD ticks i close ≤ getD ticks j close
 rising last [] close o i j h = omega arith
 rising last (t ∷ ts) close o zero zero h = omega arith
 rising last (t ∷ ts) close o zero (suc j) h = above t ts close (o .1) j

@@ -6,7 +6,7 @@ use Prim.Native.Nat.{ℕ, _≤_, _<_}
 use borrow.Author.Tests.{eq-eqb, ne-eqb, lt-ltb, le-ltb}
 use Rattle.runlog.specs.Numbers.{close-below}
 use Rattle.runlog.specs.declared.Head.{Head}
-use Rattle.runlog.specs.Log.{headOf, Taken, linesFrom, taken, refused, accepted, closing, answer, lay}
+use Rattle.runlog.specs.Log.{headOf, Taken, linesFrom, taken, refused, accepted, closing, answer}
 use Rattle.runlog.proofs.Whole.{FirstSeen, first-seen}
 
 module _ (s : List ℕ) (h : Head) (e : h ≡ headOf s) where
@@ -15,14 +15,6 @@ module _ (s : List ℕ) (h : Head) (e : h ≡ headOf s) where
     unfolding answer taken closing
     head-refused = rw (sym e) (simp (ne-eqb (h .refusal) 0 ne))
 
-    pub head-ticks : (m : List ℕ) → m ≡ lay 0 (taken s .ticks) m
-    unfolding taken lay
-    head-ticks m = rw (sym e) (simp (ne-eqb (h .refusal) 0 ne))
-
-    pub head-events : (m : List ℕ) → m ≡ lay 0 (taken s .events) m
-    unfolding taken lay
-    head-events m = rw (sym e) (simp (ne-eqb (h .refusal) 0 ne))
-
   module _ (z : h .refusal ≡ 0) where
     pub good : FirstSeen s h
     good = rw e (first-seen s (ap (λ (x : Head). x .refusal) (sym e) ∙ z))
@@ -30,12 +22,6 @@ module _ (s : List ℕ) (h : Head) (e : h ≡ headOf s) where
     pub lines-taken : taken s ≡ linesFrom s 0 (h .n) (h .start)
     unfolding taken
     lines-taken = rw (sym e) (simp (eq-eqb (h .refusal) 0 z))
-
-    pub memory-ticks : (m : List ℕ) → lay 0 (linesFrom s 0 (h .n) (h .start) .ticks) m ≡ lay 0 (taken s .ticks) m
-    memory-ticks m = ap (λ (t : Taken). lay 0 (t .ticks) m) (sym lines-taken)
-
-    pub memory-events : (m : List ℕ) → lay 0 (linesFrom s 0 (h .n) (h .start) .events) m ≡ lay 0 (taken s .events) m
-    memory-events m = ap (λ (t : Taken). lay 0 (t .events) m) (sym lines-taken)
 
     answer-is : answer s ≡ closing h (linesFrom s 0 (h .n) (h .start))
     unfolding answer

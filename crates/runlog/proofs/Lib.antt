@@ -5,7 +5,5 @@ pub mod Texts
 pub mod Theorems
 pub mod Clock
 pub mod Loading
-pub mod Scans
-pub mod Logs
 pub mod Examples
 pub mod Bound

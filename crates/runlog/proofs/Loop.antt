@@ -9,7 +9,9 @@ use native.Mathlib.Omega.{arith}
 use lib.ListN.{length, take, drop, set, length-take, length-drop}
 use lib.Seq.{drop-drop, take-all}
 use Rattle.runlog.specs.declared.LineRead.the-variants.{Refused, Line}
+use Rattle.scenario.specs.Rows.{set-of}
 use Rattle.runlog.specs.Log.{lineOf, Taken, stop, more, onLine, lineBytes, linesFrom, lay}
+use Rattle.runlog.specs.Held.{wordsOf}
 
 module _ (s : List ℕ) (i n last : ℕ) (h : i < n) where
   step : linesFrom s i (n - i) last
@@ -24,50 +26,44 @@ module _ (s : List ℕ) (i n last : ℕ) (h : i < n) where
   step-on tick event e = step ∙ rw e
 
 -- What is left from line i + 1 on, with the memory so far, is the whole.
-pub record Left (s : List ℕ) (n start i was : ℕ) (ts es ts₀ es₀ : List ℕ) : Type 0 where
+pub record Left (s : List ℕ) (n start i was : ℕ) (run run₀ : List ℕ) : Type 0 where
   pub number : linesFrom s i (n - i) was .number ≡ linesFrom s 0 n start .number
   pub line : linesFrom s i (n - i) was .line ≡ linesFrom s 0 n start .line
   pub last : linesFrom s i (n - i) was .last ≡ linesFrom s 0 n start .last
-  pub ticks : lay i (linesFrom s i (n - i) was .ticks) ts ≡ lay 0 (linesFrom s 0 n start .ticks) ts₀
-  pub events : lay i (linesFrom s i (n - i) was .events) es ≡ lay 0 (linesFrom s 0 n start .events) es₀
+  pub words : lay (i + 1) (wordsOf (linesFrom s i (n - i) was .ticks) (linesFrom s i (n - i) was .events)) run ≡ lay 1 (wordsOf (linesFrom s 0 n start .ticks) (linesFrom s 0 n start .events)) run₀
 
-abbrev pub Ends : (s : List ℕ) (n start r m l : ℕ) (ticks events ticks₀ events₀ : List ℕ) → Type 0
-Ends s n start r m l ticks events ticks₀ events₀ =
+abbrev pub Ends : (s : List ℕ) (n start r m l : ℕ) (run run₀ : List ℕ) → Type 0
+Ends s n start r m l run run₀ =
     (r ≡ linesFrom s 0 n start .number) × ((m ≡ linesFrom s 0 n start .line) × ((l ≡ linesFrom s 0 n start .last)
-    × ((ticks ≡ lay 0 (linesFrom s 0 n start .ticks) ticks₀) × (events ≡ lay 0 (linesFrom s 0 n start .events) events₀))))
+    × (run ≡ lay 1 (wordsOf (linesFrom s 0 n start .ticks) (linesFrom s 0 n start .events)) run₀)))
 
-module _ (s : List ℕ) (n start : ℕ) (ticks₀ events₀ : List ℕ) where
-  pub left-start : Left s n start 0 start ticks₀ events₀ ticks₀ events₀
-  left-start = record { number = rw sub-zero; line = rw sub-zero; last = rw sub-zero; ticks = rw sub-zero; events = rw sub-zero }
+module _ (s : List ℕ) (n start : ℕ) (run₀ : List ℕ) where
+  pub left-start : Left s n start 0 start run₀ run₀
+  left-start = record { number = rw sub-zero; line = rw sub-zero; last = rw sub-zero; words = rw sub-zero }
 
-  module _ (i last : ℕ) (ticks events : List ℕ) (L : Left s n start i last ticks events ticks₀ events₀) where
-    pub left-on : (tick event : ℕ) → i < n → lineOf last (lineBytes s i) ≡ Line tick event
-        → Left s n start (i + 1) tick (set ticks i tick) (set events i event) ticks₀ events₀
-    unfolding lay
-    left-on tick event h e =
+  module _ (i last : ℕ) (run : List ℕ) (L : Left s n start i last run run₀) where
+    pub left-on : (tick event : ℕ) → i < n → lineOf last (lineBytes s i) ≡ Line tick event → (run' : List ℕ) → run' ≡ set run (i + 1) (set-of tick event) → Left s n start (i + 1) tick run' run₀
+    unfolding lay wordsOf
+    left-on tick event h e run' er =
         let o = step-on s i n last h tick event e in
         record {
           number = sym (ap (λ (t : Taken). t .number) o) ∙ L .number;
           line = sym (ap (λ (t : Taken). t .line) o) ∙ L .line;
           last = sym (ap (λ (t : Taken). t .last) o) ∙ L .last;
-          ticks = rw (add-one i) (sym (ap (λ (t : Taken). lay i (t .ticks) ticks) o ∙ rw (add-one i)) ∙ L .ticks);
-          events = rw (add-one i) (sym (ap (λ (t : Taken). lay i (t .events) events) o ∙ rw (add-one i)) ∙ L .events);
+          words = rw (er, add-one (i + 1)) (sym (ap (λ (t : Taken). lay (i + 1) (wordsOf (t .ticks) (t .events)) run) o) ∙ L .words);
         }
 
-    pub left-stop : (r m : ℕ) → linesFrom s i (n - i) last ≡ stop r m last → Ends s n start r m last ticks events ticks₀ events₀
-    unfolding lay
+    pub left-stop : (r m : ℕ) → linesFrom s i (n - i) last ≡ stop r m last → Ends s n start r m last run run₀
+    unfolding lay wordsOf
     left-stop r m o = (
       sym (ap (λ (t : Taken). t .number) o) ∙ L .number,
       (
         sym (ap (λ (t : Taken). t .line) o) ∙ L .line,
-        (
-          sym (ap (λ (t : Taken). t .last) o) ∙ L .last,
-          (sym (ap (λ (t : Taken). lay i (t .ticks) ticks) o) ∙ L .ticks, sym (ap (λ (t : Taken). lay i (t .events) events) o) ∙ L .events),
-        ),
+        (sym (ap (λ (t : Taken). t .last) o) ∙ L .last, sym (ap (λ (t : Taken). lay (i + 1) (wordsOf (t .ticks) (t .events)) run) o) ∙ L .words),
       ),
     )
 
-    pub left-none : n ≤ i → Ends s n start 0 0 last ticks events ticks₀ events₀
+    pub left-none : n ≤ i → Ends s n start 0 0 last run run₀
     unfolding linesFrom
     left-none h = let e : n - i ≡ 0 = omega arith in left-stop 0 0 (rw e)
 

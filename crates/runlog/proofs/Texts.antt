@@ -10,9 +10,9 @@ use borrow.Author.Tests.{eq-eqb, le-ltb}
 use Rattle.scenario.specs.Rows.{event-count}
 use Rattle.columns.specs.Spell.{spell}
 use Rattle.columns.proofs.Spelling.{spell-length, spell-read}
-use Rattle.scenario.specs.Log.{Log}
+use Rattle.scenario.specs.Log.{most-lines, Log}
 use Rattle.scenario.specs.Reading.{All}
-use Rattle.runlog.specs.Numbers.{most-lines, last-tick, last-event}
+use Rattle.runlog.specs.Numbers.{last-tick, last-event}
 use Rattle.runlog.specs.declared.LineRead.the-variants.{Line}
 use Rattle.runlog.specs.Log.{headed, headOf, lineOf, Taken, lineBytes, linesFrom, taken, accepted, closing, answer, logOf}
 use Rattle.runlog.specs.Text.{headText, lineText, linesText, logText, Ordered, ValidLog}

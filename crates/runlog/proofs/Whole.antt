@@ -15,7 +15,8 @@ use Rattle.columns.specs.Spell.{spell}
 use Rattle.columns.specs.declared.Field.{Field}
 use Rattle.columns.specs.declared.Field.the-variants.{Value, Bad}
 use Rattle.scenario.specs.Reading.{All}
-use Rattle.runlog.specs.Numbers.{most-lines, last-event, close-below}
+use Rattle.runlog.specs.Numbers.{last-event, close-below}
+use Rattle.scenario.specs.Log.{most-lines}
 use Rattle.runlog.specs.declared.Head.{Head}
 use Rattle.runlog.specs.declared.Answer.{Answer}
 use Rattle.runlog.specs.declared.LineRead.{LineRead}

@@ -9,13 +9,13 @@ use Rattle.columns.specs.Number.{fieldAt}
 use Rattle.columns.specs.declared.Field.{Field}
 use Rattle.columns.specs.declared.Field.the-variants.{Value, Bad}
 use Rattle.scenario.specs.Rows.{Run}
-use Rattle.scenario.specs.Log.{Log, runOf}
+use Rattle.scenario.specs.Log.{most-lines, Log, runOf}
 use Rattle.runlog.specs.declared.Head.{Head}
 use Rattle.runlog.specs.declared.LineRead.{LineRead}
 use Rattle.runlog.specs.declared.LineRead.the-variants.{Refused, Line}
 use Rattle.runlog.specs.declared.Answer.{Answer}
 use Rattle.runlog.specs.declared.LogRead.{LogRead}
-use Rattle.runlog.specs.Numbers.{most-lines, last-event, first-line-malformed, too-many-lines, wrong-length, line-malformed, event-unknown, tick-below, close-below}
+use Rattle.runlog.specs.Numbers.{last-event, first-line-malformed, too-many-lines, wrong-length, line-malformed, event-unknown, tick-below, close-below}
 
 -- First line: line count n (5 columns), start tick (11), close tick (11)
 

@@ -1,18 +1,8 @@
--- Document 01's numbers for a log: its limits, and the refusals of "Read a log". What must be believed.
+-- Document 01's numbers for a log: its limits, but for the most lines (scenario, Log), and the refusals of "Read a log". What must be believed.
 -- Assumes nothing.
-use Prim.Native.Nat.{ℕ, _+_, _-_}
+use Prim.Native.Nat.{ℕ, _-_}
 use Rattle.columns.specs.Number.{largest}
 use Rattle.scenario.specs.Rows.{event-count}
-
-abbrev pub most-lines : ℕ
-most-lines = 4000
-
--- in memory by position: ticks of the start, the lines and the close; events of the lines, index 0 not used
-abbrev pub ticks-room : ℕ
-ticks-room = most-lines + 2
-
-abbrev pub events-room : ℕ
-events-room = most-lines + 1
 
 abbrev pub last-event : ℕ
 last-event = event-count - 1

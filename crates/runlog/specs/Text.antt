@@ -6,9 +6,9 @@ use Prim.Native.Nat.{ℕ, _≤_, _<_}
 use lib.ListN.{length}
 use Rattle.scenario.specs.Rows.{event-count}
 use Rattle.columns.specs.Spell.{spell}
-use Rattle.scenario.specs.Log.{Log}
+use Rattle.scenario.specs.Log.{most-lines, Log}
 use Rattle.scenario.specs.Reading.{All}
-use Rattle.runlog.specs.Numbers.{most-lines, last-tick}
+use Rattle.runlog.specs.Numbers.{last-tick}
 
 -- document 01: line count n (5 columns), start tick (11), close tick (11)
 unfoldable pub headText : (n start close : ℕ) → List ℕ

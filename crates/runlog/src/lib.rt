@@ -1,27 +1,16 @@
-// Reading a log (document 01, "Read a log": 21 to 27), and the log in memory by position: its events and its ticks.
+// Reading a log (document 01, "Read a log": 21 to 27) into memory.
 ghost use mathlib.Core.Path.{_≡_};
-ghost use Prim.Native.Nat.{ℕ, _+_, _*_, _≤_, _<_, _-_, min, max};
-ghost use lib.ListN.{length};
-ghost use Rattle.runlog.specs.Numbers.{most-lines, ticks-room, events-room};
-ghost use Rattle.scenario.specs.Rows.{clear as clearOf, event-count};
-ghost use Rattle.scenario.specs.Log.{inSet, hasAt, gap, sure};
-ghost use Rattle.scenario.specs.Walk.{lowest-above, highest-below};
-ghost use Rattle.scenario.specs.Reading.{All};
-ghost use Rattle.runlog.specs.Log.{headed, refused, headOf, lineOf, linesFrom, taken, answer, linesRead, lay};
-ghost use Rattle.runlog.specs.Held.{Events, part, bare, tickOf, nearOf, orZero, Loaded};
+ghost use Prim.Native.Nat.{ℕ, _+_, _*_, _≤_};
+ghost use lib.ListN.{length, getD};
+ghost use Rattle.scenario.specs.Log.{most-lines};
+ghost use Rattle.run.specs.Words.{run-room};
+ghost use Rattle.runlog.specs.Log.{headed, refused, headOf, lineOf, linesFrom, answer, linesRead, lay};
+ghost use Rattle.runlog.specs.Held.{wordsOf, Loaded};
 
 // Document 01's limits, and the bytes of the first line and of a line.
 const MOST_LINES: u32 = 4000;
 
 const LAST_EVENT: u32 = 63;
-
-// The set of all events, 0 to 63: the sum of 2^e over them.
-pub const FULL_SET: u64 = 18446744073709551615;
-
-// Room for 4,000 lines by position: ticks with the start at 0 and the close past the last line, events with index 0 not used.
-pub const TICKS_ROOM: usize = 4002;
-
-pub const EVENTS_ROOM: usize = 4001;
 
 const FIRST_BYTES: usize = 28;
 
@@ -82,29 +71,12 @@ pub struct LogRead {
 pub fn read_log(log: &[u8]) -> LogRead
     ensures { λ r. ⌜ r ≡ linesRead (now (log .entry)) ⌝ }
 {
-    let mut ticks = [0u32; TICKS_ROOM];
-    let mut events = [0u32; EVENTS_ROOM];
-    let r = load_log(log, &mut ticks, &mut events);
+    let mut run = [0u64; run::ROOM];
+    let r = load_log(log, &mut run);
     LogRead {
         refusal: r.refusal,
         lines: r.n as u32,
     }
-}
-
-// Reads a log into memory by position: ticks of the start, the lines and the close, events of the lines.
-pub fn load_log(log: &[u8], ticks: &mut [u32], events: &mut [u32]) -> Answer
-    requires { ⌜ (length (now ticks) ≡ ticks-room) × (length (now events) ≡ events-room) × All (λ (e : ℕ). e < event-count) (now events) ⌝ }
-    ensures answers { λ r. ⌜ r ≡ answer (now (log .entry)) ⌝ }
-    ensures run { λ r. ⌜ (r .refusal ≡ 0 → Loaded (now (log .entry)) (now (ticks .exit)) (now (events .exit))) ⌝ }
-{
-    let r = fill_log(log, &mut ticks[1..], &mut events[1..]);
-    if r.refusal != 0 {
-        return r;
-    }
-    let n = r.n;
-    ticks[0] = r.start;
-    ticks[n + 1] = r.close;
-    r
 }
 
 fn no_head(refusal: u32) -> Head
@@ -175,14 +147,13 @@ fn check_line(line: &[u8], last: u32) -> LineRead
     LineRead::Line(tick, event)
 }
 
-// Reads n lines into the memory, until one is refused.
-fn read_lines(log: &[u8], n: usize, start: u32, ticks: &mut [u32], events: &mut [u32]) -> Fault
-    requires { ⌜ (n ≤ most-lines) × (28 + 15 * n ≤ length (now log)) × (most-lines ≤ length (now ticks)) × (most-lines ≤ length (now events)) ⌝ }
+// Reads n lines into memory, until one is refused.
+fn read_lines(log: &[u8], n: usize, start: u32, run: &mut [u64; run::ROOM]) -> Fault
+    requires { ⌜ (n ≤ most-lines) × (28 + 15 * n ≤ length (now log)) ⌝ }
     ensures refusal { λ r. ⌜ r .refusal ≡ linesFrom (now (log .entry)) 0 n start .number ⌝ }
     ensures line { λ r. ⌜ r .line ≡ linesFrom (now (log .entry)) 0 n start .line ⌝ }
     ensures last { λ r. ⌜ r .last ≡ linesFrom (now (log .entry)) 0 n start .last ⌝ }
-    ensures ticks { λ _. ⌜ now (ticks .exit) ≡ lay 0 (linesFrom (now (log .entry)) 0 n start .ticks) (now (ticks .entry)) ⌝ }
-    ensures events { λ _. ⌜ now (events .exit) ≡ lay 0 (linesFrom (now (log .entry)) 0 n start .events) (now (events .entry)) ⌝ }
+    ensures words { λ _. ⌜ now (run .exit) ≡ lay 1 (wordsOf (linesFrom (now (log .entry)) 0 n start .ticks) (linesFrom (now (log .entry)) 0 n start .events)) (now (run .entry)) ⌝ }
 {
     let mut last = start;
     let mut rest = &log[FIRST_BYTES..];
@@ -197,8 +168,7 @@ fn read_lines(log: &[u8], n: usize, start: u32, ticks: &mut [u32], events: &mut 
                 };
             }
             LineRead::Line(tick, event) => {
-                ticks[i] = tick;
-                events[i] = event;
+                run::enter(run, i + 1, tick, event);
                 last = tick;
             }
         }
@@ -224,176 +194,32 @@ fn no_log(refusal: u32, line: u32) -> Answer
     }
 }
 
-// Reads a log: the lines that come before a refusal are in memory, ticks and events each from the front.
-fn fill_log(log: &[u8], ticks: &mut [u32], events: &mut [u32]) -> Answer
-    requires { ⌜ (most-lines ≤ length (now ticks)) × (most-lines ≤ length (now events)) ⌝ }
+// Reads a log into memory, in which there are zeros: its lines by position, the start before them and the close behind. Where it is refused, the lines are there that come before the refusal.
+pub fn load_log(log: &[u8], run: &mut [u64; run::ROOM]) -> Answer
+    requires { ⌜ (length (now run) ≡ run-room) × ((i : ℕ) → getD (now run) i 0 ≡ 0) ⌝ }
     ensures answers { λ r. ⌜ r ≡ answer (now (log .entry)) ⌝ }
-    ensures ticks { λ _. ⌜ now (ticks .exit) ≡ lay 0 (taken (now (log .entry)) .ticks) (now (ticks .entry)) ⌝ }
-    ensures events { λ _. ⌜ now (events .exit) ≡ lay 0 (taken (now (log .entry)) .events) (now (events .entry)) ⌝ }
+    ensures run { λ r. ⌜ (r .refusal ≡ 0 → Loaded (now (log .entry)) (now (run .exit))) ⌝ }
 {
     let head = first_line(log);
     if head.refusal != 0 {
         return no_log(head.refusal, 0);
     }
-    let fault = read_lines(log, head.n, head.start, ticks, events);
+    let n = head.n;
+    let fault = read_lines(log, n, head.start, run);
     if fault.refusal != 0 {
         return no_log(fault.refusal, fault.line);
     }
     if head.close < fault.last {
         return no_log(CLOSE_BELOW, 0);
     }
+    run::enter(run, 0, head.start, 0);
+    run::enter(run, n + 1, head.close, 0);
+    run::enter_lines(run, n);
     Answer {
         refusal: 0,
         line: 0,
-        n: head.n,
+        n,
         start: head.start,
         close: head.close,
     }
-}
-
-fn member(s: u64, e: u32) -> bool
-    requires { ⌜ e < 64 ⌝ }
-    ensures { λ r. ⌜ r ≡ inSet s e ⌝ }
-{
-    (s >> e) % 2 == 1
-}
-
-// Whether position x is a line with its event in the set s.
-pub fn has(events: &[u32], n: u32, s: u64, x: u32) -> bool
-    requires { ⌜ Events (now events) n ⌝ }
-    ensures { λ r. ⌜ r ≡ hasAt (part (now (events .entry)) n) s x ⌝ }
-{
-    if x < 1 {
-        return false;
-    }
-    if n < x {
-        return false;
-    }
-    let i = x as usize;
-    member(s, events[i])
-}
-
-pub fn lower(x: u32, y: u32) -> u32
-    ensures { λ r. ⌜ r ≡ min x y ⌝ }
-{
-    if x < y {
-        return x;
-    }
-    y
-}
-
-pub fn higher(x: u32, y: u32) -> u32
-    ensures { λ r. ⌜ r ≡ max x y ⌝ }
-{
-    if x < y {
-        return y;
-    }
-    x
-}
-
-// Whether no event of s is between positions x and y.
-pub fn clear(events: &[u32], n: u32, s: u64, x: u32, y: u32) -> bool
-    requires { ⌜ Events (now events) n ⌝ }
-    ensures { λ r. ⌜ r ≡ clearOf (bare (now (events .entry)) n) s x y ⌝ }
-{
-    let lo = lower(x, y);
-    let hi = higher(x, y);
-    let mut z = lo;
-    while z < hi {
-        z += 1;
-        if z < hi {
-            if has(events, n, s, z) {
-                return false;
-            }
-        }
-    }
-    true
-}
-
-// The tick of position x: the close's for every position past the lines.
-fn tick_at(ticks: &[u32], n: u32, x: u32) -> u32
-    requires { ⌜ (n + 1 < length (now ticks)) × (n ≤ most-lines) ⌝ }
-    ensures { λ r. ⌜ r ≡ tickOf (now (ticks .entry)) n x ⌝ }
-{
-    if n < x {
-        let i = n as usize + 1;
-        return ticks[i];
-    }
-    let i = x as usize;
-    ticks[i]
-}
-
-fn apart(x: u32, y: u32) -> u32
-    ensures { λ r. ⌜ r ≡ gap x y ⌝ }
-{
-    if x < y {
-        return y - x;
-    }
-    x - y
-}
-
-// Whether a distance d of two positions surely keeps the limits (document 02, A9): d + 1 is at most hi, and d - 1 (0 if d is 0) at least lo. The sum d + 1 need
-// not fit in 32 bits.
-fn surely(lo: u32, hi: u32, d: u32) -> bool
-    ensures { λ r. ⌜ r ≡ sure lo hi d ⌝ }
-{
-    if hi <= d {
-        return false;
-    }
-    if lo == 0 {
-        return true;
-    }
-    lo < d
-}
-
-// Whether positions x and y surely keep the limits lo and hi: on one position the distance is exactly 0.
-pub fn near(ticks: &[u32], n: u32, x: u32, y: u32, lo: u32, hi: u32) -> bool
-    requires { ⌜ (n + 1 < length (now ticks)) × (n ≤ most-lines) ⌝ }
-    ensures { λ r. ⌜ r ≡ nearOf (now (ticks .entry)) n x y lo hi ⌝ }
-{
-    let s = tick_at(ticks, n, x);
-    let t = tick_at(ticks, n, y);
-    if x == y {
-        return lo == 0;
-    }
-    surely(lo, hi, apart(s, t))
-}
-
-// The first position after x and up to top with its event in s, or 0.
-pub fn first_within(events: &[u32], n: u32, s: u64, x: u32, top: u32) -> u32
-    requires { ⌜ Events (now events) n × (top ≤ n) ⌝ }
-    ensures { λ r. ⌜ r ≡ orZero (lowest-above (hasAt (part (now (events .entry)) n) s) x (top - x)) ⌝ }
-{
-    let mut v = x;
-    while v < top {
-        v += 1;
-        let i = v as usize;
-        if member(s, events[i]) {
-            return v;
-        }
-    }
-    0
-}
-
-// The first position after x with its event in s, or 0.
-pub fn first_after(events: &[u32], n: u32, s: u64, x: u32) -> u32
-    requires { ⌜ Events (now events) n ⌝ }
-    ensures { λ r. ⌜ r ≡ orZero (lowest-above (hasAt (part (now (events .entry)) n) s) x (n - x)) ⌝ }
-{
-    first_within(events, n, s, x, n)
-}
-
-// The last position before x with its event in s, or 0.
-pub fn last_before(events: &[u32], n: u32, s: u64, x: u32) -> u32
-    requires { ⌜ Events (now events) n ⌝ }
-    ensures { λ r. ⌜ r ≡ orZero (highest-below (hasAt (part (now (events .entry)) n) s) x) ⌝ }
-{
-    let mut v = x;
-    while 0 < v {
-        v -= 1;
-        if has(events, n, s, v) {
-            return v;
-        }
-    }
-    0
 }

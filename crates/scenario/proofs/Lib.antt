@@ -9,12 +9,13 @@ pub mod Far
 pub mod Product
 pub mod Glue
 pub mod Place
--- Demand 3 of sound sheets, with short denials and with long ones, and the check's rows at fault.
+-- Demand 3 of sound sheets, with short denials and with long ones, the check's rows at fault, and what it may pass over.
 pub mod Agreement
 pub mod Alike
 pub mod Long
 pub mod Extension
 pub mod Faults
+pub mod Frame
 pub mod Demand
 pub mod Least
 pub mod Whole
@@ -22,6 +23,7 @@ pub mod Whole
 pub mod Halves
 pub mod Logs
 pub mod Sets
+pub mod Bits
 pub mod Reading
 pub mod Final
 -- What stands beside: what the clock drops, denials and their far ends, patterns, at most one extension, a search's steps, rows and numbers, old sheets, and the paper's examples.

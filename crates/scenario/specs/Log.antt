@@ -7,6 +7,10 @@ use lib.ListN.{length, getD}
 use lib.Dec.{leb, eqb}
 use Rattle.scenario.specs.Rows.{Run}
 
+-- "n is at most 4,000"
+abbrev pub most-lines : ℕ
+most-lines = 4000
+
 -- "start tick, close tick; then n lines: tick, event"
 pub record Log : Type 0 where
   pub start : ℕ

@@ -13,7 +13,7 @@ use Rattle.scenario.specs.Sheet.{Answer, nothing, found, Says, antiscenario}
 use Rattle.scenario.specs.Search.{smallest-matching}
 use Rattle.scenario.proofs.Least.{search-says}
 use Rattle.runlog.specs.Log.{runIn}
-use Rattle.runlog.specs.Held.{runAt}
+use Rattle.run.specs.Held.{runHeld}
 use Rattle.sheet.specs.Reading.{sheetIn}
 use Rattle.row.specs.Memory.{rowsOf}
 use Rattle.antiscenario.specs.Judge.{refusalOf}
@@ -40,11 +40,11 @@ module _ (s l : List ℕ) (m : ℕ) (places : List ℕ) where
   refused r e n = rw (sym e) (simp (ne-eqb r 0 n))
 
   -- the rows and the log that are in memory are searched
-  pub in-memory : refusalOf s l m ≡ 0 → (rows ticks events : List ℕ) (count n : ℕ) → Ready s l m rows ticks events count n
-      → (q : Searched) → q ≡ searchRows (runAt ticks events n) (rowsOf rows count) places → q ≡ searchOf s l m places
+  pub in-memory : refusalOf s l m ≡ 0 → (rows run : List ℕ) (count : ℕ) → Ready s l m rows count run
+      → (q : Searched) → q ≡ searchRows (runHeld run) (rowsOf rows count) places → q ≡ searchOf s l m places
   unfolding searchOf
-  in-memory z rows ticks events count n R q e =
-      e ∙ ap₂ (λ (run : Run) (rs : List Row). searchRows run rs places) (R .run-is) (R .rows-held .rows-are) ∙ simp (eq-eqb (refusalOf s l m) 0 z)
+  in-memory z rows run count R q e =
+      e ∙ ap₂ (λ (g : Run) (rs : List Row). searchRows g rs places) (R .run-is) (R .rows-held .rows-are) ∙ simp (eq-eqb (refusalOf s l m) 0 z)
 
 -- What a search says
 

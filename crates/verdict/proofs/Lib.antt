@@ -3,7 +3,9 @@ pub mod DemandThree
 pub mod Before
 pub mod Unmoved
 pub mod Long
-pub mod Matchings
+pub mod Antecedent
+pub mod Skipping
+pub mod Loop
 pub mod Reading
 pub mod Examples
 pub mod Faults

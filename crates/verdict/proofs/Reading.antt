@@ -14,7 +14,8 @@ use Rattle.row.specs.Memory.{lay as lay-rows}
 use Rattle.sheet.proofs.Held.{sheet-is, sheet-loaded}
 use Rattle.runlog.specs.declared.Answer.{Answer}
 use Rattle.runlog.specs.Log.{answer}
-use Rattle.runlog.specs.Held.{Held, runAt, Loaded}
+use Rattle.run.specs.Held.{runHeld}
+use Rattle.runlog.specs.Held.{Loaded}
 use Rattle.verdict.specs.declared.Checked.{Checked}
 use Rattle.sheet.specs.declared.Answer.{Answer as SheetAnswer}
 use Rattle.verdict.specs.Check.{verdictOf, blank, checkOf, Accepted}
@@ -39,23 +40,19 @@ module _ (s l : List ℕ) where
   demanded c e A = subst (λ (c : Checked). DemandThree s l c (searchOf s l)) (sym e) (demand-bytes s l A)
 
   module _ (rs : SheetAnswer) (es : rs ≡ sheet-answer s) (zs : rs .refusal ≡ 0) (rl : Answer) (el : rl ≡ answer l) (zl : rl .refusal ≡ 0)
-      (m₀ m : List ℕ) (room : 1056 ≤ length m₀) (em : m ≡ lay-rows 0 (sheet-taken s .lines) m₀) (ticks events : List ℕ) (D : Loaded l ticks events) where
+      (m₀ m : List ℕ) (room : 1056 ≤ length m₀) (em : m ≡ lay-rows 0 (sheet-taken s .lines) m₀) (run : List ℕ) (D : Loaded l run) where
     sheet-taken-in : sheet-answer s .refusal ≡ 0
     sheet-taken-in = ap (λ (q : SheetAnswer). q .refusal) (sym es) ∙ zs
 
     log-taken-in : answer l .refusal ≡ 0
     log-taken-in = ap (λ (q : Answer). q .refusal) (sym el) ∙ zl
 
-    pub held-here : Held ticks events (rl .n)
-    held-here = subst (λ (q : Answer). Held ticks events (q .n)) (sym el) (D .held)
-
     pub sheet-held-here : SheetHeld m (rs .rows) (rs .k)
     sheet-held-here = sheet-loaded s rs es zs m m₀ room em .held
 
-    pub checked : (c : Checked) → c ≡ verdictOf (runAt ticks events (rl .n)) (sheetAt m (rs .rows) (rs .k)) (check (runAt ticks events (rl .n)) (sheetAt m (rs .rows) (rs .k))) → c ≡ checkOf s l
+    pub checked : (c : Checked) → c ≡ verdictOf (runHeld run) (sheetAt m (rs .rows) (rs .k)) (check (runHeld run) (sheetAt m (rs .rows) (rs .k))) → c ≡ checkOf s l
     checked c ec =
         ec
-        ∙ ap (λ (q : Answer). verdictOf (runAt ticks events (q .n)) (sheetAt m (rs .rows) (rs .k)) (check (runAt ticks events (q .n)) (sheetAt m (rs .rows) (rs .k)))) el
         ∙ ap₂ (λ (g : Log) (z : Sheet). verdictOf (runOf g) z (check (runOf g) z)) (D .is) (sheet-is s rs es zs m m₀ room em)
         ∙ sym (check-is s l (record { sheet = sheet-taken-in; log = log-taken-in }))
 

@@ -1,7 +1,9 @@
-//! The proved code through the C interface beside plain Rust, in one run, as ratios: bench [check | worst | alone | counts | once ours|plain
-//! check|NUMBER|CASE | logs FOLDER].
+//! The proved code through the C interface beside plain Rust, in one run, as ratios: bench [check | alone | counts | once ours|plain
+//! check|NUMBER|CASE|RULE | logs FOLDER].
+use satskhubo_tests::expected::VIOLATED;
 use satskhubo_tests::generate::cases::{case_of, cases, Case};
 use satskhubo_tests::generate::logs::{log_of, mixed, uniform};
+use satskhubo_tests::generate::rules::{rule_of, rules, standing_measures, Rule};
 use satskhubo_tests::generate::sheets::{sheet_of, sheet_s};
 use satskhubo_tests::host::Host;
 use satskhubo_tests::outcome::Side;
@@ -125,11 +127,6 @@ fn many_antiscenarios() -> Vec<u8> {
     sheet_of(6, &rows)
 }
 
-/// Two points with set 8 and a consequent NEXT 11 after 1.
-fn standing_measure() -> Vec<u8> {
-    sheet_of(1, &[[0, POINT, 1, 0, 8, 0], [0, POINT, 2, 0, 8, 0], [1, NEXT, 11, 1, 8, 0]])
-}
-
 /// Document 02, A8: after each injection a correction comes before any scan. Number 1 denies NEXT, up to the scan.
 fn correction_between() -> Vec<u8> {
     let antecedent = [[0, POINT, 1, 0, 2, 0], [0, POINT, 2, 0, 8, 0], [0, BEFORE, 1, 2, 0, 0]];
@@ -146,24 +143,6 @@ fn injections(n: u32, is_kept: bool) -> Vec<u8> {
         (false, _) => 1 + 2 * (at % 2),
     };
     log_of(&(1..=n).map(|at| (10 * at, event(at))).collect::<Vec<_>>()).text()
-}
-
-/// Two points with set 8, and a consequent about what stands around or between them.
-fn two_points(consequent: [u32; 6]) -> Vec<u8> {
-    sheet_of(1, &[[0, POINT, 1, 0, 8, 0], [0, POINT, 2, 0, 8, 0], consequent])
-}
-
-/// Scans, but for one event 2 in the first or in the last line.
-fn scans_but_one(n: u32, line: u32) -> Vec<u8> {
-    let lines: Vec<(u32, u32)> = (1..=n).map(|at| (10 * at, if at == line { 2 } else { 3 })).collect();
-    log_of(&lines).text()
-}
-
-/// Checks that look at every line again for each of n^2 placements: NEXT, LAST and FREE, whose line or event is far or nowhere.
-fn worst_cases() {
-    check("FREE 1 2 {1}, no 1", &two_points([1, FREE, 1, 2, 2, 0]), scans_text);
-    check("NEXT 11 after 1 {2}, 2 in the last", &two_points([1, NEXT, 11, 1, 4, 0]), |n| scans_but_one(n, n));
-    check("LAST 11 before 1 {2}, 2 in the first", &two_points([1, LAST, 11, 1, 4, 0]), |n| scans_but_one(n, 1));
 }
 
 /// The seconds of the proved code alone on 4,000 lines, a line each, for tests/beside: name, tab, seconds.
@@ -184,6 +163,9 @@ fn alone() {
         let search = &mut || keep(Host.search_into(&sheet_s(), black_box(&mixed), number, &mut *places.borrow_mut()));
         tell(&format!("search S, number {number}"), search);
     }
+    let search_all =
+        &mut || (1..=4096).for_each(|number| keep(Host.search_into(&many, black_box(&mixed), number, &mut *places.borrow_mut())));
+    tell("search all of N = 4,096", search_all);
     // Those that are not long without giving up.
     for Case { name, sheet, .. } in ["timed", "denied"].into_iter().filter_map(case_of) {
         tell(name, &mut || keep(Host.search_into(&sheet, black_box(&scans), 1, &mut *places.borrow_mut())));
@@ -193,7 +175,10 @@ fn alone() {
         tell(name, &mut || keep(Host.search_into(&correction_between(), black_box(&log), 1, &mut *places.borrow_mut())));
     }
     tell("check S", &mut || keep(Host.check_number(&sheet_s(), black_box(&mixed))));
-    tell("standing measure", &mut || keep(Host.check_number(&standing_measure(), black_box(&scans))));
+    // The rules themselves were long before.
+    for Rule { name, sheet, .. } in standing_measures() {
+        tell(name, &mut || keep(Host.check_number(&sheet, black_box(&scans))));
+    }
 }
 
 fn read_logs() {
@@ -237,14 +222,32 @@ fn search(name: &str, sheet: &[u8], numbers: RangeInclusive<u64>, log: impl Fn(u
     }
 }
 
-fn check(name: &str, sheet: &[u8], log: fn(u32) -> Vec<u8>) {
+/// The check on logs of each size, which keep the sheet or do not.
+fn check(name: &str, sheet: &[u8], log: impl Fn(u32) -> Vec<u8>, holds: bool) {
     let mut table = Table::new();
     for n in SIZES {
         let log = log(n);
-        assert_eq!(Host.check_number(sheet, &log), plain::Plain.check_number(sheet, &log));
+        assert_eq!(Host.check_number(sheet, &log), if holds { 0 } else { VIOLATED });
+        assert_eq!(plain::check(sheet, &log).map(|violation| violation.is_none()), Ok(holds));
         let check_ours = || keep(Host.check_number(sheet, black_box(&log)));
         let check_plain = || keep(plain::check(sheet, black_box(&log)));
         table.line(name, n, both(check_ours, check_plain));
+    }
+}
+
+fn check_standing_measures() {
+    for Rule { name, sheet, log, holds, .. } in standing_measures() {
+        check(name, &sheet, |n| log(n).text(), holds);
+    }
+}
+
+/// The check of each rule, and the searches that go with it.
+fn ordinary_rules() {
+    for Rule { name, sheet, log, holds, searched, .. } in rules() {
+        check(&format!("check: {name}"), &sheet, |n| log(n).text(), holds);
+        for number in 1..=searched {
+            search(&format!("number {number}: {name}"), &sheet, number..=number, |n| log(n).text());
+        }
     }
 }
 
@@ -256,21 +259,26 @@ fn scans_text(n: u32) -> Vec<u8> {
     uniform(n, 3).text()
 }
 
-fn check_once(side: &str, what: &str) {
-    assert_eq!(what, "check", "neither a number nor a case");
-    let (sheet, log) = (sheet_s(), mixed_text(4000));
+fn check_once(side: &str, sheet: &[u8], log: &[u8]) {
     match side {
-        "ours" => keep(Host.check_number(&sheet, &log)),
-        _ => keep(plain::check(&sheet, &log)),
+        "ours" => keep(Host.check_number(sheet, log)),
+        _ => keep(plain::check(sheet, log)),
     }
 }
 
-/// One run of one side on 4,000 lines, for counting its instructions: the check of S on mixed lines, the search of one of its numbers, or a case.
+/// One run of one side on 4,000 lines, for counting its instructions: the check of S on mixed lines, the search of one of its numbers, a case, or
+/// the check of a rule.
 fn once(side: &str, what: &str) {
+    if let Some(rule) = rule_of(what) {
+        return check_once(side, &rule.sheet, &(rule.log)(4000).text());
+    }
     let (sheet, log, numbers) = match (case_of(what), what.parse::<u64>()) {
         (Some(case), _) => (case.sheet, (case.log)(4000).text(), case.numbers),
         (_, Ok(number)) => (sheet_s(), mixed_text(4000), number..=number),
-        _ => return check_once(side, what),
+        _ => {
+            assert_eq!(what, "check", "neither a number nor a case nor a rule");
+            return check_once(side, &sheet_s(), &mixed_text(4000));
+        }
     };
     let mut places = [0; 58];
     for number in numbers {
@@ -339,12 +347,8 @@ fn main() {
         return counts();
     }
     Table::heading();
-    if word == "worst" {
-        return worst_cases();
-    }
     if word == "check" {
-        check("standing measure", &standing_measure(), scans_text);
-        return;
+        return check_standing_measures();
     }
     read_logs();
     read_sheets();
@@ -356,6 +360,7 @@ fn main() {
     for case in cases() {
         search(case.name, &case.sheet, case.numbers, |n| (case.log)(n).text());
     }
-    check("check S", &sheet_s(), mixed_text);
-    check("standing measure", &standing_measure(), scans_text);
+    check("check S", &sheet_s(), mixed_text, true);
+    check_standing_measures();
+    ordinary_rules();
 }

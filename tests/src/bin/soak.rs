@@ -1,8 +1,10 @@
 //! Comparisons for as long as asked: soak SECONDS [SEED] with random pairs, soak families [PART of PARTS] with the larger families.
-use satskhubo_tests::compare::{compare, compare_long, compare_once, Mismatch, Tally};
+use satskhubo_tests::compare::{compare, compare_findings, compare_long, compare_once, Mismatch, Tally};
 use satskhubo_tests::generate::chains::{chain_logs, chains};
 use satskhubo_tests::generate::families::{self, Family};
-use satskhubo_tests::generate::pairs::{chained_pair_of, independent_pair_of, large_pair_of, long_pair_of, pair_of};
+use satskhubo_tests::generate::pairs::{
+    chained_pair_of, independent_pair_of, large_pair_of, long_pair_of, longer_rule_pair_of, pair_of, rule_pair_of,
+};
 use satskhubo_tests::generate::{logs, sheets, Pair};
 use satskhubo_tests::host::Host;
 use satskhubo_tests::random::Random;
@@ -94,8 +96,8 @@ impl Soak {
         Soak { large, boards, chains: Soaked::new(chains(), &chain_logs()) }
     }
 
-    /// Mostly the seed's own pair; else one of the families, one with a longer log, one with a large sheet, one with chains, or
-    /// one whose consequents are independent.
+    /// Mostly the seed's own pair; else one of the families, one with a longer log, one with a large sheet, one with chains, one
+    /// whose consequents are independent, or one of an ordinary rule.
     fn compare(&self, seed: u64) -> Result<Tally, Mismatch> {
         let mut random = Random::new(!seed);
         match random.below(100) {
@@ -111,6 +113,8 @@ impl Soak {
             40..=46 => compare(&Host, &chained_pair_of(seed), seed, 12),
             47..=49 => compare(&Host, &self.chains.pair(&mut random), seed, 12),
             50..=56 => compare(&Host, &independent_pair_of(seed), seed, 12),
+            57..=68 => compare(&Host, &rule_pair_of(seed), seed, 12),
+            69 => compare_findings(&Host, &longer_rule_pair_of(seed), seed, 12),
             _ => compare(&Host, &pair_of(seed), seed, 12),
         }
     }

@@ -240,6 +240,16 @@ pub fn compare<S: Side>(side: &S, pair: &Pair, seed: u64, most_numbers: u64) -> 
     comparison.tallied(&before)
 }
 
+/// Compares the check and the searches alone, for up to so many of the numbers: where the rest would take longer than they do.
+pub fn compare_findings<S: Side>(side: &S, pair: &Pair, seed: u64, most_numbers: u64) -> Result<Tally, Mismatch> {
+    let mut comparison = Comparison::new(side, pair, seed);
+    comparison.checks()?;
+    for number in comparison.numbers(most_numbers) {
+        comparison.searching(number)?;
+    }
+    Ok(Tally { pairs: 1, comparisons: comparison.comparisons, ..Tally::default() })
+}
+
 /// Compares every operation on one pair, each number once: for families compared whole.
 pub fn compare_once<S: Side>(side: &S, pair: &Pair) -> Result<Tally, Mismatch> {
     let before = pair.clone();

@@ -55,6 +55,17 @@ pub fn with_rare_events(random: &mut Random, n: u32) -> Log {
     with_events(random, n, &events)
 }
 
+/// A log of exactly so many lines with the same event, but for up to three lines at the borders of words of 64 lines.
+pub fn with_events_at_borders(random: &mut Random, n: u32) -> Log {
+    let usual = random.pick(&EVENTS);
+    let mut log = with_events(random, n, &[usual]);
+    let borders: Vec<u32> = [1, 62, 63, 64, 65, 126, 127, 128, 129, n].into_iter().filter(|&line| line <= n).collect();
+    for _ in 0..random.from_to(1, 3) {
+        log.lines[random.pick(&borders) as usize - 1].event = random.pick(&EVENTS);
+    }
+    log
+}
+
 /// Now and then one of the lines comes as late as ticks can tell.
 fn with_events(random: &mut Random, n: u32, events: &[u32]) -> Log {
     let start = first_tick(random);

@@ -6,6 +6,7 @@ pub mod damage;
 pub mod families;
 pub mod logs;
 pub mod pairs;
+pub mod rules;
 pub mod sheets;
 pub mod targeted;
 

@@ -18,6 +18,8 @@ enum Wanted {
     HoldsByConsequents,
     /// Document 02, A8.
     ShortDenial,
+    /// By a matching of the antecedent that is not its smallest.
+    ViolatedLater,
 }
 
 fn any_wanted(random: &mut Random) -> Wanted {
@@ -42,7 +44,22 @@ fn is_as_wanted(wanted: Wanted, sheet: &Sheet, log: &Log) -> bool {
         Wanted::AntecedentMatched => sheet.count > 0 && matched(),
         Wanted::HoldsByConsequents => sheet.count > 0 && matched() && verdict(sheet, log) == Verdict::Holds,
         Wanted::ShortDenial => sheet.count > 0 && has_short_denial(sheet) && matched(),
+        Wanted::ViolatedLater => sheet.count > 0 && is_violated_later(sheet, log),
     }
+}
+
+/// The antecedent's smallest matching extends to a consequent, and another one to none.
+pub fn is_violated_later(sheet: &Sheet, log: &Log) -> bool {
+    match verdict(sheet, log) {
+        Verdict::Holds => false,
+        Verdict::Violated { placement, .. } => weeded::smallest(&sheet.section(0), log) != Some(placement),
+    }
+}
+
+/// A row of POINT whose set has the event of some line.
+fn with_a_place(random: &mut Random, row: &Row, log: &Log) -> Row {
+    let line = log.lines[random.below(log.lines.len())];
+    Row::of_set(row.section, POINT, row.p, 0, row.set() | 1 << line.event)
 }
 
 /// A random sheet, half of its limits at distances of the log.
@@ -52,6 +69,9 @@ fn sheet_at_limits(random: &mut Random, shape: &sheets::Shape, log: &Log) -> Vec
         if random.one_in(2) {
             (row.a, row.b) = sheets::limits_at(random, log);
         }
+    }
+    if shape.narrowing {
+        rows.iter_mut().filter(|row| row.kind == POINT).for_each(|row| *row = with_a_place(random, row, log));
     }
     sheet::text(k, &rows)
 }
@@ -146,6 +166,27 @@ pub fn independent_pair_of(seed: u64) -> Pair {
     let mut random = Random::new(seed);
     let log = logs::random(&mut random, 6);
     Pair { sheet: sheet_for(&mut random, &sheets::INDEPENDENT, Wanted::AntecedentMatched, &log), log: log.text() }
+}
+
+/// An accepted sheet of an ordinary rule, and a short log that mostly does not keep it, which the first matching does not show.
+pub fn rule_pair_of(seed: u64) -> Pair {
+    let mut random = Random::new(seed);
+    let n = random.from_to(2, 7);
+    let log = logs::of_length(&mut random, n);
+    let wanted = match random.below(6) {
+        0 => Wanted::AntecedentMatched,
+        1 | 2 => Wanted::HoldsByConsequents,
+        _ => Wanted::ViolatedLater,
+    };
+    Pair { sheet: sheet_for(&mut random, &sheets::RULES, wanted, &log), log: log.text() }
+}
+
+/// The same with a log of one word of 64 lines or two.
+pub fn longer_rule_pair_of(seed: u64) -> Pair {
+    let mut random = Random::new(seed);
+    let n = random.pick(&[62, 63, 64, 65, 66, 126, 127, 128, 129, 130]);
+    let log = logs::with_events_at_borders(&mut random, n);
+    Pair { sheet: sheet_for(&mut random, &sheets::TWO_POINT_RULES, Wanted::AntecedentMatched, &log), log: log.text() }
 }
 
 /// An accepted sheet of few antiscenarios, and a log of hundreds or thousands of lines.

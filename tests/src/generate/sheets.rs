@@ -18,6 +18,8 @@ pub struct Shape {
     pub leading: usize,
     /// Each consequent speaks of few of the antecedent's points, and half of its rows of kinds 6 to 12 are FREE.
     pub independent: bool,
+    /// The antecedent has two points or more, and most of its rows of kinds 6 to 12 leave a point few places: FREE, WITHIN and EVENT.
+    pub narrowing: bool,
 }
 
 pub const SMALL: Shape = Shape {
@@ -30,6 +32,7 @@ pub const SMALL: Shape = Shape {
     fewest_rows: None,
     leading: 1,
     independent: false,
+    narrowing: false,
 };
 pub const MIDDLE: Shape = Shape {
     antecedent_points: 3,
@@ -41,6 +44,7 @@ pub const MIDDLE: Shape = Shape {
     fewest_rows: None,
     leading: 1,
     independent: false,
+    narrowing: false,
 };
 pub const LARGE: Shape = Shape {
     antecedent_points: 4,
@@ -52,6 +56,7 @@ pub const LARGE: Shape = Shape {
     fewest_rows: None,
     leading: 1,
     independent: false,
+    narrowing: false,
 };
 
 /// Sheets whose antiscenarios place at most two points freely, for logs of thousands of lines.
@@ -65,6 +70,7 @@ pub const NARROW: Shape = Shape {
     fewest_rows: None,
     leading: 1,
     independent: false,
+    narrowing: false,
 };
 
 /// Sheets whose antiscenarios place at most three points freely, for logs of hundreds of lines.
@@ -82,6 +88,7 @@ pub const MANY: Shape = Shape {
     fewest_rows: Some(12),
     leading: 1,
     independent: false,
+    narrowing: false,
 };
 
 /// Sheets of up to six consequents with so few rows that a log often meets them.
@@ -95,6 +102,7 @@ pub const FEW_ROWS: Shape = Shape {
     fewest_rows: Some(1),
     leading: 1,
     independent: false,
+    narrowing: false,
 };
 
 /// Document 02, A8: sheets with little but points and BEFORE rows between them.
@@ -108,6 +116,7 @@ pub const CHAINS: Shape = Shape {
     fewest_rows: Some(2),
     leading: 10,
     independent: false,
+    narrowing: false,
 };
 
 /// Document 02, A2: sheets whose antiscenarios place points of several consequents freely, where one consequent has no place for its own because of
@@ -122,7 +131,25 @@ pub const INDEPENDENT: Shape = Shape {
     fewest_rows: Some(1),
     leading: 1,
     independent: true,
+    narrowing: false,
 };
+
+/// Ordinary rules: two to four points that narrow each other's places, and consequents that each speak of few of them.
+pub const RULES: Shape = Shape {
+    antecedent_points: 4,
+    antecedent_rows: 3,
+    fewest_consequents: 1,
+    consequents: 3,
+    consequent_points: 2,
+    consequent_rows: 2,
+    fewest_rows: None,
+    leading: 2,
+    independent: true,
+    narrowing: true,
+};
+
+/// The same for logs of more than one word of 64 lines.
+pub const TWO_POINT_RULES: Shape = Shape { antecedent_points: 2, consequents: 2, consequent_points: 1, ..RULES };
 
 /// The text of a sheet whose rows are given by their fields.
 pub fn sheet_of(k: u32, rows: &[[u32; 6]]) -> Vec<u8> {
@@ -293,7 +320,24 @@ fn leading_row(random: &mut Random, section: u32, rows: &[Row], known: &[u32]) -
     Row::new(section, BEFORE, p, q, 0, 0)
 }
 
+/// FREE or WITHIN between two points, now and then one of them an end, or EVENT: with sets and limits that rule out some places and not all.
+fn narrowing_row(random: &mut Random, known: &[u32]) -> Row {
+    let with_end = known.len() < 2 || random.one_in(4);
+    let (p, q) = if with_end { two_of(random, &with_ends(known)) } else { two_of(random, known) };
+    match random.pick(&[FREE, WITHIN, EVENT]) {
+        FREE => Row::of_set(0, FREE, p, q, bit(random.pick(&EVENTS))),
+        EVENT => Row::of_set(0, EVENT, random.pick(known), 0, !bit(random.pick(&EVENTS))),
+        kind => {
+            let low = if random.one_in(2) { 0 } else { random.from_to(1, 3) };
+            Row::new(0, kind, p, q, low, low + random.from_to(1, 9))
+        }
+    }
+}
+
 fn antecedent_row(random: &mut Random, shape: &Shape, known: &[u32]) -> Row {
+    if shape.narrowing && !random.one_in(3) {
+        return narrowing_row(random, known);
+    }
     match known.len() > 1 && random.below(12) < shape.leading {
         true => ordering_row(random, known),
         false => demanding_row(random, 0, known),
@@ -302,7 +346,11 @@ fn antecedent_row(random: &mut Random, shape: &Shape, known: &[u32]) -> Row {
 
 fn antecedent(random: &mut Random, shape: &Shape) -> Vec<Row> {
     let mut rows = Vec::new();
-    let points = if random.one_in(12) { 0 } else { random.from_to(1, shape.antecedent_points) };
+    let points = match shape.narrowing {
+        true => random.from_to(2, shape.antecedent_points),
+        false if random.one_in(12) => 0,
+        false => random.from_to(1, shape.antecedent_points),
+    };
     let mut known: Vec<u32> = Vec::new();
     for p in 1..=points {
         rows.push(Row::of_set(0, POINT, p, 0, set(random)));

@@ -11,7 +11,8 @@ pub struct Antiscenario {
     pub point_count: usize,
 }
 
-fn needed(row: &Row) -> u128 {
+/// The points that a row speaks of, without the one it introduces.
+pub fn needed(row: &Row) -> u128 {
     match row.kind {
         1 => 0,
         2 | 3 => 1 << row.q,
@@ -22,7 +23,7 @@ fn needed(row: &Row) -> u128 {
 }
 
 /// The antecedent's points, in a set of points.
-const ANTECEDENT: u128 = 0b11110;
+pub const ANTECEDENT: u128 = 0b11110;
 
 /// The points that BEFORE rows lead to from a point, in one or more steps; backwards, those that they lead from.
 fn reached(rows: &[Row], from: u8, backwards: bool) -> u128 {

@@ -3,6 +3,7 @@ pub mod antiscenario;
 pub mod check;
 pub mod columns;
 pub mod log;
+pub mod maps;
 pub mod search;
 pub mod sheet;
 pub mod tried;
@@ -11,7 +12,7 @@ use crate::outcome::*;
 use antiscenario::Antiscenario;
 use check::Violation;
 use log::Log;
-use search::{Positions, Visitor};
+use search::{Positions, Visitor, ENDED};
 use sheet::Sheet;
 
 const NUMBER: u32 = 31;
@@ -38,6 +39,13 @@ pub fn read_sheet(text: &[u8]) -> Result<Sheet, u32> {
     Sheet::read(text).map_err(|(refusal, ..)| refusal)
 }
 
+/// With two points or more in the antecedent, lines of a set are asked for again and again.
+fn draw_maps(sheet: &Sheet, log: &mut Log) {
+    if sheet.antecedent_points() > 1 {
+        log.draw_maps();
+    }
+}
+
 pub fn write(sheet: &[u8], number: u64, buffer: &mut [u8]) -> Result<usize, u32> {
     let antiscenario = numbered(&read_sheet(sheet)?, number)?;
     antiscenario.write(buffer).ok_or(BUFFER)
@@ -45,7 +53,7 @@ pub fn write(sheet: &[u8], number: u64, buffer: &mut [u8]) -> Result<usize, u32>
 
 /// How many places were filled, or none.
 pub fn search(sheet: &[u8], log: &[u8], number: u64, places: &mut [u32]) -> Result<Option<usize>, u32> {
-    search_by(sheet, log, number, places, &mut |_: &Positions| true)
+    search_by(sheet, log, number, places, &mut |_: &mut Positions| ENDED)
 }
 
 /// The same by a visitor that ends at the first matching.
@@ -56,11 +64,12 @@ pub fn search_by(
     places: &mut [u32],
     visitor: &mut impl Visitor,
 ) -> Result<Option<usize>, u32> {
-    let (sheet, log) = (read_sheet(sheet)?, read_log(log)?);
+    let (sheet, mut log) = (read_sheet(sheet)?, read_log(log)?);
     let antiscenario = numbered(&sheet, number)?;
     if places.len() < antiscenario.point_count {
         return Err(PLACES);
     }
+    draw_maps(&sheet, &mut log);
     Ok(search::smallest(&antiscenario, &log, places, visitor))
 }
 
@@ -74,7 +83,9 @@ pub fn judge(sheet: &[u8], log: &[u8], number: u64, positions: &[u32], count: us
 }
 
 pub fn check(sheet: &[u8], log: &[u8]) -> Result<Option<Violation>, u32> {
-    Ok(check::check(&read_sheet(sheet)?, &read_log(log)?))
+    let (sheet, mut log) = (read_sheet(sheet)?, read_log(log)?);
+    draw_maps(&sheet, &mut log);
+    Ok(check::check(&sheet, &log))
 }
 
 /// Plain Rust behind the C interface's operations, to be compared with the reference like the proved code.

@@ -216,4 +216,8 @@ impl Sheet {
     pub fn section(&self, section: usize) -> &[Row] {
         &self.rows[self.begins[section]..self.begins[section + 1]]
     }
+
+    pub fn antecedent_points(&self) -> usize {
+        self.section(0).iter().filter(|row| row.kind == 1).count()
+    }
 }

@@ -1,5 +1,5 @@
-//! Document 02, A2: how many positions searches try, with what cannot help given up or as they were before.
-use super::search::{Positions, Visitor};
+//! Document 02, A2: how many positions searches try, as they are now or as they were before.
+use super::search::{Blame, Positions, Visitor, ENDED};
 
 /// Counts up to a bound, at which it ends the search as if it had found a matching.
 pub struct Tried<const GIVES_UP: bool> {
@@ -27,7 +27,7 @@ impl<const GIVES_UP: bool> Visitor for Tried<GIVES_UP> {
     }
 
     #[inline]
-    fn sees(&mut self, _: &Positions) -> bool {
-        true
+    fn sees(&mut self, _: &mut Positions) -> Blame {
+        ENDED
     }
 }

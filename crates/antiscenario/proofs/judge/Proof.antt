@@ -18,7 +18,7 @@ use Rattle.antiscenario.proofs.judge.Tie as tie
 -- What was handed over, and what reading gave and left in memory
 module _ (c : tie.After-load-antiscenario) where
   abbrev start : tie.Start
-  start = c .before .before .before .before .before .before
+  start = c .before .before .before .before .before
 
   abbrev sheet : List ℕ
   sheet = start .args .sheet .now
@@ -41,17 +41,11 @@ module _ (c : tie.After-load-antiscenario) where
   abbrev rows : List ℕ
   rows = c .load-antiscenario .last .1 .1 .1 .0
 
-  abbrev ticks : List ℕ
-  ticks = c .load-antiscenario .last .1 .1 .1 .1 .0
-
-  abbrev events : List ℕ
-  events = c .load-antiscenario .last .1 .1 .1 .1 .1 .0
+  abbrev run : List ℕ
+  run = c .load-antiscenario .last .1 .1 .1 .1 .0
 
   abbrev count : ℕ
   count = c .load-antiscenario .result .rows
-
-  abbrev lines : ℕ
-  lines = c .load-antiscenario .result .lines
 
   -- an answer that is the definition's is what was promised
   answered : (r : Judged) → r ≡ judgeOf sheet log number positions position-count
@@ -61,14 +55,14 @@ module _ (c : tie.After-load-antiscenario) where
 -- Nothing is refused
 module _ (c : tie.Else1) where
   abbrev loading : tie.After-load-antiscenario
-  loading = c .before .before .before .before .before
+  loading = c .before .before .before
 
-  both-there : Ready (sheet loading) (log loading) (number loading) (rows loading) (ticks loading) (events loading) (count loading) (lines loading)
+  both-there : Ready (sheet loading) (log loading) (number loading) (rows loading) (count loading) (run loading)
   both-there = loading .load-antiscenario .ensures .1 (c .if1 .left)
 
 returns : tie.Need-returns
 returns c =
-    let x = c .before .before .before .before .before .before in
+    let x = c .before .before .before .before in
     answered x _ (c .unjudged .ensures ∙ judge-refused (sheet x) (log x) (number x) (positions x) (position-count x) (refusal x) (x .load-antiscenario .ensures .0) (c .before .if1 .taken))
 
 gather-requires : tie.Need-gather-requires
@@ -80,7 +74,7 @@ returns-2 c =
     let e = g .before .before .before in
     let x = loading e in
     answered x _ (c .unjudged2 .ensures
-    ∙ wrong-number (sheet x) (log x) (number x) (positions x) (position-count x) (refusal x) (x .load-antiscenario .ensures .0) (e .if1 .left) (rows x) (ticks x) (events x) (count x) (lines x) (both-there e)
+    ∙ wrong-number (sheet x) (log x) (number x) (positions x) (position-count x) (refusal x) (x .load-antiscenario .ensures .0) (e .if1 .left) (rows x) (run x) (count x) (both-there e)
     (g .gather .result) (g .gather .ensures .0) (c .before .if2 .taken))
 
 -- and there are as many positions as points
@@ -93,17 +87,17 @@ module _ (c : tie.Else2) where
 
 is-matching-requires : tie.Need-is-matching-requires
 is-matching-requires c κs =
-    let e = c .before .before .before .before .before .before .before in
+    let e = c .before .before .before .before .before .before in
     let R = both-there (read e) in
     let g = gathering e .gather in
     (R .held, omega (arith, R .rows-held .few), R .rows-held .pattern, g .ensures .0, g .ensures .1, omega (arith, R .rows-held .pattern .few, g .ensures .0))
 
 returns-3 : tie.Need-returns-3
 returns-3 c =
-    let e = c .before .before .before .before .before .before .before .before in
+    let e = c .before .before .before .before .before .before .before in
     let g = gathering e .gather in
     let x = loading (read e) in
-    answered x _ (judged (sheet x) (log x) (number x) (positions x) (position-count x) (refusal x) (x .load-antiscenario .ensures .0) (read e .if1 .left) (rows x) (ticks x) (events x) (count x) (lines x) (both-there (read e))
+    answered x _ (judged (sheet x) (log x) (number x) (positions x) (position-count x) (refusal x) (x .load-antiscenario .ensures .0) (read e .if1 .left) (rows x) (run x) (count x) (both-there (read e))
     (g .result) (g .ensures .0) (c .is-matching .result) (e .if2 .left) (c .is-matching .ensures))
 
 pub judge-spec : {M : Type 1} → statement M
@@ -111,9 +105,7 @@ judge-spec =
     tie.close
     (tie.spec
     (λ c. search needs)
-    (λ c. search needs)
-    (λ c. search needs)
-    (λ c κs. (room-1200, search needs, search needs, all-zeros 4001))
+    (λ c κs. (room-1200, search needs, all-zeros 8100))
     (λ c κs. search needs)
     returns
     (λ c. search needs)

@@ -1,6 +1,6 @@
 -- `load` meets its contract: 31 where a test finds the number below 1 or above N, else the rows built from the sheet in memory.
 -- Assumes nothing.
-use mathlib.Core.Path.{_≡_}
+use mathlib.Core.Path.{_≡_, _∙_}
 use mathlib.Core.Logic.{⊎-elim}
 use Prim.Native.Nat.{_≤_}
 use native.Mathlib.Omega.{arith}
@@ -52,7 +52,8 @@ pub load-spec : {M : Type 1} → statement M
 load-spec =
     tie.close
     (tie.spec
-    (λ c. (refused c, λ z. absurd (omega arith)))
+    (λ c κs. search needs)
+    (λ c. (c .not-loaded .ensures ∙ refused (c .before), λ z. absurd (omega (arith, c .not-loaded .ensures, z))))
     build-requires
     (λ c. record { fits = omega (arith, held (c .before .before) .few) })
     (λ c. search needs)

@@ -10,7 +10,7 @@ use Rattle.runlog.specs.Held.{Loaded}
 use Rattle.sheet.specs.Held.{SheetLoaded}
 use Rattle.sheet.proofs.Held.{sheet-loaded, room-1056}
 use Rattle.antiscenario.proofs.InMemory.{held-of-text}
-use Rattle.antiscenario.proofs.Judging.{sheet-refused, log-refused, number-answered, few-lines, ready, promised-nothing}
+use Rattle.antiscenario.proofs.Judging.{sheet-refused, log-refused, number-answered, ready, promised-nothing}
 use borrow.Author.Needs.{needs}
 use Rattle.antiscenario.proofs.load_antiscenario.Statement.{statement}
 use Rattle.antiscenario.proofs.load_antiscenario.Tie as tie
@@ -18,7 +18,7 @@ use Rattle.antiscenario.proofs.load_antiscenario.Tie as tie
 -- The texts, the number, and what reading the sheet gave
 module _ (c : tie.After-load-sheet) where
   abbrev start : tie.Start
-  start = c .before .before .before .before .before .before .before
+  start = c .before .before .before .before .before
 
   abbrev sheet : List ℕ
   sheet = start .args .sheet .now
@@ -44,45 +44,42 @@ module _ (c : tie.Else1) where
 -- and so is the log
 module _ (c : tie.Else2) where
   abbrev logging : tie.After-load-log
-  logging = c .before .before .before .before .before .before
+  logging = c .before .before
 
   abbrev accepted : tie.Else1
-  accepted = logging .before .before .before
+  accepted = logging .before .before
 
-  log-there : Loaded (log (reading accepted)) (logging .load-log .last .1 .0) (logging .load-log .last .1 .1 .0)
+  log-there : Loaded (log (reading accepted)) (logging .load-log .last .1 .0)
   log-there = logging .load-log .ensures .1 (c .if2 .left)
 
 returns : tie.Need-returns
 returns c =
     let x = c .before .before .before .before in (
-      c .not-ready .ensures ∙ sheet-refused (sheet x) (log x) (number x) (read x) (x .load-sheet .ensures .0) (c .before .if1 .taken),
-      promised-nothing _ (read x .refusal) (c .not-ready .ensures) (c .before .if1 .taken),
+      c .not-loaded .ensures ∙ sheet-refused (sheet x) (log x) (number x) (read x) (x .load-sheet .ensures .0) (c .before .if1 .taken),
+      promised-nothing _ (read x .refusal) (c .not-loaded .ensures) (c .before .if1 .taken),
     )
 
 returns-2 : tie.Need-returns-2
 returns-2 c =
-    let l = c .before .before .before .before .before .before .before in
-    let a = l .before .before .before in
+    let l = c .before .before .before in
+    let a = l .before .before in
     let x = reading a in (
-      c .not-ready2 .ensures ∙ log-refused (sheet x) (log x) (number x) (read x) (x .load-sheet .ensures .0) (a .if1 .left) (l .load-log .result) (l .load-log .ensures .0) (c .before .if2 .taken),
-      promised-nothing _ (l .load-log .result .refusal) (c .not-ready2 .ensures) (c .before .if2 .taken),
+      c .not-loaded2 .ensures ∙ log-refused (sheet x) (log x) (number x) (read x) (x .load-sheet .ensures .0) (a .if1 .left) (l .load-log .result) (l .load-log .ensures .0) (c .before .if2 .taken),
+      promised-nothing _ (l .load-log .result .refusal) (c .not-loaded2 .ensures) (c .before .if2 .taken),
     )
 
 load-requires : tie.Need-load-requires
 load-requires c κs = let a = accepted (c .before .before) in (sheet-there a, start (reading a) .pre .0)
 
-few : (c : tie.Else2) → logging c .load-log .result .n ≤ 4000
-few c = few-lines (log (reading (accepted c))) (logging c .load-log .result) (logging c .load-log .ensures .0) _ _ (log-there c)
-
 returns-3 : tie.Need-returns-3
 returns-3 c =
-    let d = c .before .before .before .load in
-    let e = c .before .before .before .before .before .before in
+    let d = c .before .before .load in
+    let e = c .before .before .before .before .before in
     let a = accepted e in
     let x = reading a in
     let l = logging e .load-log in (
       number-answered (sheet x) (log x) (number x) (read x) (x .load-sheet .ensures .0) (a .if1 .left) (l .result) (l .ensures .0) (e .if2 .left) (d .result .refusal) (d .ensures .0),
-      λ z. ready (log x) (l .result) (l .ensures .0) _ _ (log-there e) (sheet x) (number x) _ (d .result .rows)
+      λ z. ready (log x) _ (log-there e) (sheet x) (number x) _ (d .result .rows)
           (held-of-text (sheet x) (read x) (x .load-sheet .ensures .0) (a .if1 .left) (x .load-sheet .last .1 .0) (replicate 1056 0) room-1056 (x .load-sheet .ensures .1)
           (number x) _ (d .result .rows) (d .ensures .1 z)),
     )
@@ -97,13 +94,8 @@ load-antiscenario-spec =
     returns
     (λ c κs. search needs)
     (λ c κs. search needs)
-    (λ c. search needs)
-    (λ c. search needs)
     returns-2
     (λ c. search needs)
     load-requires
-    (λ c. record { fits = omega (arith, few (c .before .before .before .before .before .before)) })
-    (λ c. search needs)
-    (λ c. search needs)
     (λ c. search needs)
     returns-3)

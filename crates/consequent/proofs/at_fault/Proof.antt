@@ -8,9 +8,8 @@ use native.Mathlib.Nat.{sub-zero}
 use native.Mathlib.Omega.{arith}
 use lib.ListN.{length, replicate, length-set}
 use borrow.Author.Tests.{not-true, not-false}
-use Rattle.runlog.specs.Held.{runAt}
-use Rattle.runlog.proofs.Logs.{seen-laws}
-use Rattle.scenario.specs.Fields.{decode}
+use Rattle.run.specs.Held.{runHeld}
+use Rattle.run.proofs.Logs.{seen-laws}
 use Rattle.row.specs.Memory.{listed, tagAt, tagsOf}
 use Rattle.consequent.specs.Walk.{faultIn, faultsIn, Kept}
 use Rattle.consequent.proofs.Advancing.{fault-end, skip, stuck, passed, faults-end, faults-none, faults-on}
@@ -19,41 +18,41 @@ use Rattle.consequent.proofs.at_fault.Statement.{statement}
 use Rattle.consequent.proofs.at_fault.Tie as tie
 
 abbrev Inv-rows : tie.InvT-rows
-Inv-rows ticks events n rows count k positions₀ faults c j₀ positions j =
+Inv-rows run rows count k positions₀ faults c j₀ positions j =
     (j ≤ count)
     × Kept (tagsOf rows count) positions₀ positions
-    × (faultIn (runAt ticks events n) (c + 1) positions j (listed (tagAt rows) j (count - j)) ≡ faultIn (runAt ticks events n) (c + 1) positions₀ 0 (tagsOf rows count))
+    × (faultIn (runHeld run) (c + 1) positions j (listed (tagAt rows) j (count - j)) ≡ faultIn (runHeld run) (c + 1) positions₀ 0 (tagsOf rows count))
 
 abbrev μ-rows : tie.MeasureT-rows
-μ-rows ticks events n rows count k positions₀ faults c j₀ positions j = count - j
+μ-rows run rows count k positions₀ faults c j₀ positions j = count - j
 
 abbrev Inv-consequents : tie.InvT-consequents
-Inv-consequents ticks events n rows count k positions₀ faults₀ c₀ positions faults c =
+Inv-consequents run rows count k positions₀ faults₀ c₀ positions faults c =
     (c ≤ k)
     × (length faults ≡ 6)
     × Kept (tagsOf rows count) positions₀ positions
-    × (faultsIn (runAt ticks events n) (tagsOf rows count) positions₀ c (k - c) faults ≡ faultsIn (runAt ticks events n) (tagsOf rows count) positions₀ 0 k (replicate 6 0))
+    × (faultsIn (runHeld run) (tagsOf rows count) positions₀ c (k - c) faults ≡ faultsIn (runHeld run) (tagsOf rows count) positions₀ 0 k (replicate 6 0))
 
 abbrev μ-consequents : tie.MeasureT-consequents
-μ-consequents ticks events n rows count k positions₀ faults₀ c₀ positions faults c = k - c
+μ-consequents run rows count k positions₀ faults₀ c₀ positions faults c = k - c
 
 -- what the inner loop was broken with
 row-is : (c : tie.Joined1 Inv-rows μ-rows Inv-consequents μ-consequents) →
     let at = c .before .before .before in
     let a = at .before .args in
-    c .if1 .row ≡ faultIn (runAt (a .ticks .now) (a .events .now) (a .n)) (at .consequents .c + 1) (a .positions .now) 0 (tagsOf (a .rows .now) (a .count))
+    c .if1 .row ≡ faultIn (runHeld (a .run .now)) (at .consequents .c + 1) (a .positions .now) 0 (tagsOf (a .rows .now) (a .count))
 row-is c =
     let at = c .before .before .before in
     let s = at .before in
     let a = s .args in
     let r = c .before .rows in
-    let w = runAt (a .ticks .now) (a .events .now) (a .n) in
+    let w = runHeld (a .run .now) in
     ⊎-elim
     (λ v. v .2 ∙ sym (fault-end w (a .rows .now) (a .count) (at .consequents .c + 1) (r .positions) (r .j) (v .0 .taken)) ∙ r .inv .2)
-    (λ v. let k = v .5 .result in v .9 ∙ sym (stuck w (a .rows .now) (a .count) (at .consequents .c + 1) (r .positions) (r .j) (v .0 .left) (v .2 .result) (v .2 .ensures) (v .3 .left)
-    (decode (k .kind) (k .p) (k .q) (k .a) (k .b) (k .set)) (v .5 .ensures) (v .6 .result) (v .6 .ensures .0) (not-true _ (v .7 .taken))) ∙ r .inv .2)
+    (λ v. v .8 ∙ sym (stuck w (a .rows .now) (a .count) (at .consequents .c + 1) (r .positions) (r .j) (v .0 .left) (v .2 .result) (v .2 .ensures) (v .3 .left)
+    (v .5 .result) (v .5 .ensures .0) (not-true _ (v .6 .taken))) ∙ r .inv .2)
     (c .if1 .came)
-    ∙ fault-same (a .rows .now) (a .count) (a .k) (s .pre .1) w (seen-laws (a .ticks .now) (a .events .now) (a .n) (s .pre .0)) (a .positions .now) (at .consequents .positions) (s .pre .2) (at .consequents .inv .2)
+    ∙ fault-same (a .rows .now) (a .count) (a .k) (s .pre .1) w (seen-laws (a .run .now) (s .pre .0)) (a .positions .now) (at .consequents .positions) (s .pre .2) (at .consequents .inv .2)
     (at .consequents .c) (c .before .before .consequents-test .taken)
 
 -- and the array that it left
@@ -71,9 +70,8 @@ env-is c =
     (kept-on ts (at .consequents .positions) (r .positions) (c .if1 .positions) (r .inv .1)
     (⊎-elim
     (λ v. subst (Kept ts (r .positions)) (sym (v .1)) (kept-all ts (r .positions)))
-    (λ v. let k = v .5 .result in row-keeps (runAt (a .ticks .now) (a .events .now) (a .n)) (a .rows .now) (a .count)
-    (r .positions) (c .if1 .positions) (r .j) (at .consequents .c) (v .2 .result) (v .0 .left) (v .2 .ensures) (v .3 .left) (decode (k .kind) (k .p) (k .q) (k .a) (k .b) (k .set)) (v .5 .ensures)
-    (v .8 ∙ v .6 .ensures .1))
+    (λ v. row-keeps (runHeld (a .run .now)) (a .rows .now) (a .count)
+    (r .positions) (c .if1 .positions) (r .j) (at .consequents .c) (v .2 .result) (v .0 .left) (v .2 .ensures) (v .3 .left) (v .7 ∙ v .5 .ensures .1))
     (c .if1 .came)))
 
 consequents-holds : tie.Need-consequents-holds Inv-rows μ-rows Inv-consequents μ-consequents
@@ -89,30 +87,30 @@ rows-again c =
     let at = l .before .before in
     let a = at .before .args in
     let r = l .rows in
-    (search needs, r .inv .1, sym (skip (runAt (a .ticks .now) (a .events .now) (a .n)) (a .rows .now) (a .count) (at .consequents .c + 1) (r .positions) (r .j) (c .before .before .before .if1 .left) (c .before .section-of .result) (c .before .section-of .ensures) (c .if2 .taken)) ∙ r .inv .2)
+    (search needs, r .inv .1, sym (skip (runHeld (a .run .now)) (a .rows .now) (a .count) (at .consequents .c + 1) (r .positions) (r .j) (c .before .before .before .if1 .left) (c .before .section-of .result) (c .before .section-of .ensures) (c .if2 .taken)) ∙ r .inv .2)
 
 advance-requires : tie.Need-advance-requires Inv-rows μ-rows Inv-consequents μ-consequents
-advance-requires c κs = c .before .before .before .before .before .before .before .before .before .pre .0
+advance-requires c κs =
+    let e = c .before .before .before .before in
+    let s = e .before .before .before .before in
+    (s .pre .0, omega (arith, e .if1 .left, s .pre .1 .few))
 
 rows-again-2 : tie.Need-rows-again-2 Inv-rows μ-rows Inv-consequents μ-consequents
 rows-again-2 c =
-    let l = c .before .before .before .before .before .before .before .before in
+    let t = c .before .before .before .before in
+    let e = t .before .before in
+    let l = e .before in
     let at = l .before .before in
     let s = at .before in
     let a = s .args in
     let r = l .rows in
-    let w = runAt (a .ticks .now) (a .events .now) (a .n) in
-    let h = c .before .before .before .before .before .before .before .if1 .left in
-    let t = c .before .before .before .before .before .section-of in
-    let v = c .before .advance in
-    let row = c .before .before .row-at in
-    let k = decode (row .result .kind) (row .result .p) (row .result .q) (row .result .a) (row .result .b) (row .result .set) in (
-      omega (arith, h),
-      kept-on (tagsOf (a .rows .now) (a .count)) (at .consequents .positions) (r .positions) (v .last .1 .1 .1 .0) (r .inv .1)
-          (row-keeps w (a .rows .now) (a .count) (r .positions) (v .last .1 .1 .1 .0) (r .j) (at .consequents .c)
-          (t .result) h (t .ensures) (c .before .before .before .before .if2 .left) k (row .ensures) (v .ensures .1)),
-      sym (passed w (a .rows .now) (a .count) (at .consequents .c + 1) (r .positions) (r .j) h (t .result) (t .ensures) (c .before .before .before .before .if2 .left) k (row .ensures)
-          (v .result) (v .ensures .0) (v .last .1 .1 .1 .0) (v .ensures .1) (not-false _ (c .if3 .left))) ∙ r .inv .2,
+    let w = runHeld (a .run .now) in
+    let v = c .before .advance in (
+      omega (arith, e .if1 .left),
+      kept-on (tagsOf (a .rows .now) (a .count)) (at .consequents .positions) (r .positions) (v .last .1 .0) (r .inv .1)
+          (row-keeps w (a .rows .now) (a .count) (r .positions) (v .last .1 .0) (r .j) (at .consequents .c) (t .section-of .result) (e .if1 .left) (t .section-of .ensures) (c .before .before .before .if2 .left) (v .ensures .1)),
+      sym (passed w (a .rows .now) (a .count) (at .consequents .c + 1) (r .positions) (r .j) (e .if1 .left) (t .section-of .result) (t .section-of .ensures) (c .before .before .before .if2 .left)
+          (v .result) (v .ensures .0) (v .last .1 .0) (v .ensures .1) (not-false _ (c .if3 .left))) ∙ r .inv .2,
     )
 
 returns : tie.Need-returns Inv-rows μ-rows Inv-consequents μ-consequents
@@ -145,12 +143,12 @@ at-fault-spec =
     (λ c. search needs)
     (λ c. search needs)
     rows-again
-    (λ c κs. search needs)
     advance-requires
     (λ c. search needs)
     (λ c. search needs)
     (λ c. search needs)
     rows-again-2
+    (λ c. search needs)
     returns
     (λ c. search needs)
     (λ c. search needs)

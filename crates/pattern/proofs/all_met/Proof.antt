@@ -3,7 +3,7 @@
 use Rattle.pattern.proofs.Matching.{met-on, met-not, met-end}
 use Rattle.row.specs.Memory.{rowAt, listed, rowsOf}
 use Rattle.pattern.specs.Placing.{by}
-use Rattle.runlog.specs.Held.{runAt}
+use Rattle.run.specs.Held.{runHeld}
 use Rattle.scenario.specs.Sheet.{all}
 use Rattle.scenario.specs.Rows.{meets}
 use native.Mathlib.Nat.{sub-zero}
@@ -15,31 +15,28 @@ use Rattle.pattern.proofs.all_met.Statement.{statement}
 use Rattle.pattern.proofs.all_met.Tie as tie
 
 abbrev Inv-loop : tie.InvT-loop
-Inv-loop ticks events n positions rows count j₀ j = (j ≤ count) × (all (meets (runAt ticks events n) (by positions)) (listed (rowAt rows) j (count - j)) ≡ all (meets (runAt ticks events n) (by positions)) (rowsOf rows count))
+Inv-loop run positions rows count j₀ j = (j ≤ count) × (all (meets (runHeld run) (by positions)) (listed (rowAt rows) j (count - j)) ≡ all (meets (runHeld run) (by positions)) (rowsOf rows count))
 
 abbrev μ-loop : tie.MeasureT-loop
-μ-loop ticks events n positions rows count j₀ j = count - j
+μ-loop run positions rows count j₀ j = count - j
 
 loop-holds : tie.Need-loop-holds Inv-loop μ-loop
 unfolding rowsOf
 loop-holds c = (search needs, rw sub-zero refl)
 
-meets-requires : tie.Need-meets-requires Inv-loop μ-loop
-meets-requires c κs = c .before .before .before .pre .0
-
 returns : tie.Need-returns Inv-loop μ-loop
 returns c =
-    let a = c .before .before .before .before .before .args in
-    let l = c .before .before .before .before .loop in
-    met-not (runAt (a .ticks .now) (a .events .now) (a .n)) (by (a .positions .now)) (a .rows .now) (a .count) (l .j) _ (c .before .before .row-at .ensures) (c .before .before .before .loop-test .taken)
+    let a = c .before .before .before .before .args in
+    let l = c .before .before .before .loop in
+    met-not (runHeld (a .run .now)) (by (a .positions .now)) (a .rows .now) (a .count) (l .j) (c .before .before .loop-test .taken)
     (sym (c .before .meets .ensures) ∙ not-true _ (c .if1 .taken)) ∙ l .inv .1
 
 loop-again : tie.Need-loop-again Inv-loop μ-loop
 loop-again c =
-    let a = c .before .before .before .before .before .args in
-    let l = c .before .before .before .before .loop in (
+    let a = c .before .before .before .before .args in
+    let l = c .before .before .before .loop in (
       search needs,
-      met-on (runAt (a .ticks .now) (a .events .now) (a .n)) (by (a .positions .now)) (a .rows .now) (a .count) (l .j) _ (c .before .before .row-at .ensures) (c .before .before .before .loop-test .taken)
+      met-on (runHeld (a .run .now)) (by (a .positions .now)) (a .rows .now) (a .count) (l .j) (c .before .before .loop-test .taken)
           (sym (c .before .meets .ensures) ∙ not-false _ (c .if1 .left)) ∙ l .inv .1,
     )
 
@@ -47,7 +44,7 @@ returns-2 : tie.Need-returns-2 Inv-loop μ-loop
 returns-2 c =
     let a = c .before .before .args in
     let l = c .before .loop in
-    met-end (runAt (a .ticks .now) (a .events .now) (a .n)) (by (a .positions .now)) (a .rows .now) (a .count) (l .j) (c .loop-test .left) ∙ l .inv .1
+    met-end (runHeld (a .run .now)) (by (a .positions .now)) (a .rows .now) (a .count) (l .j) (c .loop-test .left) ∙ l .inv .1
 
 pub all-met-spec : {M : Type 1} → statement M
 all-met-spec =
@@ -57,7 +54,6 @@ all-met-spec =
     μ-loop
     loop-holds
     (λ c κs. search needs)
-    meets-requires
     returns
     (λ c. search needs)
     (λ c. search needs)

@@ -10,15 +10,12 @@ use Rattle.runlog.proofs.Loading.{all-zeros}
 use Rattle.runlog.proofs.read_log.Statement.{statement}
 use Rattle.runlog.proofs.read_log.Tie as tie
 
-load-log-requires : tie.Need-load-log-requires
-load-log-requires c κs = (search needs, search needs, all-zeros 4001)
-
-cast-t9 : tie.Need-cast-t9
-cast-t9 c = record { fits = omega (arith, ap (λ (a : Answer). a .n) (c .before .before .before .load-log .ensures .0), answer-few (c .before .before .before .before .before .before .before .args .log .now)) }
+cast-t5 : tie.Need-cast-t5
+cast-t5 c = record { fits = omega (arith, ap (λ (a : Answer). a .n) (c .before .load-log .ensures .0), answer-few (c .before .before .before .before .args .log .now)) }
 
 returns : tie.Need-returns
 unfolding linesRead
-returns c = ap withoutLine (c .before .before .before .load-log .ensures .0)
+returns c = ap withoutLine (c .before .load-log .ensures .0)
 
 pub read-log-spec : {M : Type 1} → statement M
-read-log-spec = tie.close (tie.spec (λ c. search needs) (λ c. search needs) load-log-requires cast-t9 returns)
+read-log-spec = tie.close (tie.spec (λ c κs. (search needs, all-zeros 8100)) cast-t5 returns)

@@ -4,10 +4,10 @@ use mathlib.Core.List.{List}
 use Prim.Native.Nat.{ℕ}
 use native.Mathlib.Omega.{arith}
 use lib.ListN.{length}
-use Rattle.scenario.specs.Rows.{points}
+use Rattle.scenario.specs.Rows.{Row, Run, points}
 use Rattle.scenario.specs.Search.{smallest-matching}
 use Rattle.scenario.specs.Reading.{Pattern}
-use Rattle.runlog.specs.Held.{runAt}
+use Rattle.run.specs.Held.{runHeld}
 use Rattle.row.specs.Memory.{rowsOf}
 use Rattle.plan.specs.Tables.{point-count, row-count, Drawn}
 use Rattle.placement.specs.Matching.{isFound}
@@ -38,27 +38,44 @@ returns c =
     let p = n .before .before in
     let a = p .before .before .before .args in
     ap (λ (r : SearchAnswer). answered r (a .places .now)) (c .unsearched .ensures)
-    ∙ too-few (runAt (a .ticks .now) (a .events .now) (a .n)) (rowsOf (a .rows .now) (a .count)) (a .places .now) (n .point-count .result) (number p (n .point-count .result) (n .point-count .ensures)) (c .before .if1 .taken)
+    ∙ too-few (runHeld (a .run .now)) (rowsOf (a .rows .now) (a .count)) (a .places .now) (n .point-count .result) (number p (n .point-count .result) (n .point-count .ensures)) (c .before .if1 .taken)
+
+-- there are enough places, and the maps may be drawn
+module _ (d : tie.After-draw-maps) where
+  abbrev counted : tie.After-point-count
+  counted = d .before .before .before .before
+
+  abbrev prepared : tie.After-prepare
+  prepared = counted .before .before
+
+  abbrev start : tie.Start
+  start = prepared .before .before .before
+
+  abbrev drawn-run : List ℕ
+  drawn-run = d .draw-maps .last .0
+
+  -- the run stays the same
+  same : (rs : List Row) → smallest-matching (runHeld drawn-run) rs ≡ smallest-matching (runHeld (start .args .run .now)) rs
+  same rs = ap (λ (g : Run). smallest-matching g rs) (d .draw-maps .ensures .1)
 
 find-requires : tie.Need-find-requires
 find-requires c κs =
-    let e = c .before .before in
-    let n = e .before in
-    let p = n .before .before in
-    let s = p .before .before .before in
-    (s .pre .0, drawn p, omega (arith, rows-are p, s .pre .1), subst (λ (k : ℕ). Pattern (rowsOf (s .args .rows .now) k)) (sym (rows-are p)) (s .pre .2), omega (arith, e .if1 .left, n .point-count .ensures))
+    let d = c .before .before .before in
+    let p = prepared d in
+    let s = start d in
+    (d .draw-maps .ensures .0, drawn p, omega (arith, rows-are p, s .pre .2), subst (λ (k : ℕ). Pattern (rowsOf (s .args .rows .now) k)) (sym (rows-are p)) (s .pre .3), omega (arith, d .before .before .before .if1 .left, counted d .point-count .ensures))
 
 returns-2 : tie.Need-returns-2
 returns-2 c =
     let f = c .before .before in
-    let e = f .before .before .before in
-    let n = e .before in
-    let p = n .before .before in
-    let a = p .before .before .before .args in
-    let run = runAt (a .ticks .now) (a .events .now) (a .n) in
-    enough run (rowsOf (a .rows .now) (a .count)) (a .places .now) (n .point-count .result) (number p (n .point-count .result) (n .point-count .ensures)) _ _ (e .if1 .left)
-    (f .find .ensures .0 ∙ ap (λ (k : ℕ). isFound (smallest-matching run (rowsOf (a .rows .now) k))) (rows-are p))
-    (f .find .ensures .1 ∙ ap (λ (k : ℕ). filled (a .places .now) (smallest-matching run (rowsOf (a .rows .now) k))) (rows-are p))
+    let d = f .before .before .before .before in
+    let e = d .before .before .before in
+    let n = counted d in
+    let p = prepared d in
+    let a = start d .args in
+    enough (runHeld (a .run .now)) (rowsOf (a .rows .now) (a .count)) (a .places .now) (n .point-count .result) (number p (n .point-count .result) (n .point-count .ensures)) _ _ (e .if1 .left)
+    (f .find .ensures .0 ∙ ap isFound (same d (rowsOf (a .rows .now) (row-count (plan p)))) ∙ ap (λ (k : ℕ). isFound (smallest-matching (runHeld (a .run .now)) (rowsOf (a .rows .now) k))) (rows-are p))
+    (f .find .ensures .1 ∙ ap (filled (a .places .now)) (same d (rowsOf (a .rows .now) (row-count (plan p)))) ∙ ap (λ (k : ℕ). filled (a .places .now) (smallest-matching (runHeld (a .run .now)) (rowsOf (a .rows .now) k))) (rows-are p))
 
 pub search-rows-spec : {M : Type 1} → statement M
 search-rows-spec =
@@ -69,6 +86,7 @@ search-rows-spec =
     (λ c. search needs)
     (λ c κs. search needs)
     returns
+    (λ c κs. search needs)
     find-requires
     (λ c. search needs)
     returns-2)

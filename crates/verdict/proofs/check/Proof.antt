@@ -5,14 +5,15 @@ use Prim.Native.Nat.{ℕ}
 use native.Mathlib.Omega.{arith}
 use lib.ListN.{replicate}
 use Rattle.scenario.specs.Search.{check}
+use Rattle.run.specs.Held.{runHeld}
 use Rattle.runlog.specs.declared.Answer.{Answer as LogAnswer}
-use Rattle.runlog.specs.Held.{Held, runAt}
+use Rattle.runlog.specs.Held.{Loaded}
 use Rattle.runlog.proofs.Loading.{all-zeros}
 use Rattle.sheet.specs.declared.Answer.{Answer as SheetAnswer}
 use Rattle.sheet.specs.Held.{sheetAt, SheetHeld}
 use Rattle.verdict.specs.declared.Checked.{Checked}
 use Rattle.verdict.specs.Check.{verdictOf, checkOf}
-use Rattle.verdict.proofs.Reading.{sheet-refused, log-refused, demanded, held-here, sheet-held-here, checked, zeros}
+use Rattle.verdict.proofs.Reading.{sheet-refused, log-refused, demanded, sheet-held-here, checked, zeros}
 use borrow.Author.Needs.{needs}
 use Rattle.verdict.proofs.check.Statement.{statement}
 use Rattle.verdict.proofs.check.Tie as tie
@@ -24,54 +25,59 @@ returns c =
     let q = c .unviolated .ensures ∙ sheet-refused (a .sheet .now) (a .log .now) (x .result .refusal) (ap (λ (z : SheetAnswer). z .refusal) (x .ensures .0)) (c .before .if1 .taken) in
     (q, demanded (a .sheet .now) (a .log .now) _ q)
 
-returns-2 : tie.Need-returns-2
-returns-2 c =
-    let y = c .before .before .before .before .before in
-    let e = y .before .before .before in
-    let x = e .before .before .before .load-sheet in
-    let a = e .before .before .before .before .before .before .before .args in
-    let q = c .unviolated2 .ensures ∙ log-refused (a .sheet .now) (a .log .now) (ap (λ (z : SheetAnswer). z .refusal) (sym (x .ensures .0)) ∙ e .if1 .left) (y .load-log .result .refusal) (ap (λ (z : LogAnswer). z .refusal) (y .load-log .ensures .0)) (c .before .if2 .taken) in
-    (q, demanded (a .sheet .now) (a .log .now) _ q)
-
--- Both are accepted: the sheet's rows and the log's lines are in memory.
-module _ (k : tie.Else2) where
-  abbrev log-read : tie.After-load-log
-  log-read = k .before .before .before .before
+-- The sheet is accepted, and the log is read.
+module _ (c : tie.After-load-log) where
+  abbrev accepted : tie.Else1
+  accepted = c .before .before
 
   abbrev sheet-read : tie.After-load-sheet
-  sheet-read = log-read .before .before .before .before .before .before
+  sheet-read = accepted .before .before .before
 
   abbrev s : tie.Start
   s = sheet-read .before .before .before .before
 
+returns-2 : tie.Need-returns-2
+returns-2 c =
+    let l = c .before .before .before in
+    let x = sheet-read l .load-sheet in
+    let a = s l .args in
+    let q = c .unviolated2 .ensures ∙ log-refused (a .sheet .now) (a .log .now) (ap (λ (z : SheetAnswer). z .refusal) (sym (x .ensures .0)) ∙ accepted l .if1 .left) (l .load-log .result .refusal) (ap (λ (z : LogAnswer). z .refusal) (l .load-log .ensures .0)) (c .before .if2 .taken) in
+    (q, demanded (a .sheet .now) (a .log .now) _ q)
+
+-- So is the log: the sheet's rows and the log's run are in memory.
+module _ (k : tie.Else2) where
+  abbrev log-read : tie.After-load-log
+  log-read = k .before .before
+
   abbrev rows : List ℕ
-  rows = sheet-read .load-sheet .last .1 .0
+  rows = sheet-read log-read .load-sheet .last .1 .0
 
-  abbrev ticks : List ℕ
-  ticks = log-read .load-log .last .1 .0
+  abbrev run : List ℕ
+  run = log-read .load-log .last .1 .0
 
-  abbrev events : List ℕ
-  events = log-read .load-log .last .1 .1 .0
+  loaded : Loaded (s log-read .args .log .now) run
+  loaded = log-read .load-log .ensures .1 (k .if2 .left)
 
-  held : Held ticks events (log-read .load-log .result .n)
-  held = held-here (s .args .sheet .now) (s .args .log .now) (sheet-read .load-sheet .result) (sheet-read .load-sheet .ensures .0) (log-read .before .before .before .if1 .left) (log-read .load-log .result) (log-read .load-log .ensures .0) (k .if2 .left)
-      (replicate 1200 0) rows zeros (sheet-read .load-sheet .ensures .1) ticks events (log-read .load-log .ensures .1 (k .if2 .left))
+  abbrev sheet-answer : SheetAnswer
+  sheet-answer = sheet-read log-read .load-sheet .result
 
-  sheet-held : SheetHeld rows (sheet-read .load-sheet .result .rows) (sheet-read .load-sheet .result .k)
-  sheet-held = sheet-held-here (s .args .sheet .now) (s .args .log .now) (sheet-read .load-sheet .result) (sheet-read .load-sheet .ensures .0) (log-read .before .before .before .if1 .left) (log-read .load-log .result) (log-read .load-log .ensures .0) (k .if2 .left)
-      (replicate 1200 0) rows zeros (sheet-read .load-sheet .ensures .1) ticks events (log-read .load-log .ensures .1 (k .if2 .left))
+  sheet-held : SheetHeld rows (sheet-answer .rows) (sheet-answer .k)
+  sheet-held = let x = sheet-read log-read .load-sheet in
+      sheet-held-here (s log-read .args .sheet .now) (s log-read .args .log .now) (x .result) (x .ensures .0) (accepted log-read .if1 .left) (log-read .load-log .result) (log-read .load-log .ensures .0) (k .if2 .left)
+      (replicate 1200 0) rows zeros (x .ensures .1) run loaded
 
   -- what the check in memory says is what it says of the bytes
-  answered : (c : Checked) → let run = runAt ticks events (log-read .load-log .result .n) in let sheet = sheetAt rows (sheet-read .load-sheet .result .rows) (sheet-read .load-sheet .result .k) in
-      c ≡ verdictOf run sheet (check run sheet) → c ≡ checkOf (s .args .sheet .now) (s .args .log .now)
-  answered = checked (s .args .sheet .now) (s .args .log .now) (sheet-read .load-sheet .result) (sheet-read .load-sheet .ensures .0) (log-read .before .before .before .if1 .left) (log-read .load-log .result) (log-read .load-log .ensures .0) (k .if2 .left)
-      (replicate 1200 0) rows zeros (sheet-read .load-sheet .ensures .1) ticks events (log-read .load-log .ensures .1 (k .if2 .left))
+  answered : (c : Checked) → let sheet = sheetAt rows (sheet-answer .rows) (sheet-answer .k) in
+      c ≡ verdictOf (runHeld run) sheet (check (runHeld run) sheet) → c ≡ checkOf (s log-read .args .sheet .now) (s log-read .args .log .now)
+  answered = let x = sheet-read log-read .load-sheet in
+      checked (s log-read .args .sheet .now) (s log-read .args .log .now) (x .result) (x .ensures .0) (accepted log-read .if1 .left) (log-read .load-log .result) (log-read .load-log .ensures .0) (k .if2 .left)
+      (replicate 1200 0) rows zeros (x .ensures .1) run loaded
 
 returns-3 : tie.Need-returns-3
 returns-3 c =
-    let k = c .before .before .before .before .before .before in
+    let k = c .before .before .before .before in
     let q = answered k (c .check-rows .result) (c .check-rows .ensures) in
-    (q, demanded (s k .args .sheet .now) (s k .args .log .now) _ q)
+    (q, demanded (s (log-read k) .args .sheet .now) (s (log-read k) .args .log .now) _ q)
 
 pub check-spec : {M : Type 1} → statement M
 check-spec =
@@ -81,12 +87,9 @@ check-spec =
     (λ c κs. search needs)
     (λ c κs. search needs)
     returns
-    (λ c. search needs)
-    (λ c. search needs)
-    (λ c κs. (search needs, search needs, all-zeros 4001))
+    (λ c κs. (search needs, all-zeros 8100))
     (λ c κs. search needs)
     returns-2
-    (λ c. record { fits = omega (arith, held (c .before .before .before) .lines .few) })
-    (λ c. record { fits = omega (arith, sheet-held (c .before .before .before .before .before) .few) })
-    (λ c κs. let k = c .before .before .before .before .before in (held k, sheet-held k))
+    (λ c. record { fits = omega (arith, sheet-held (c .before .before .before) .few) })
+    (λ c κs. let k = c .before .before .before in (loaded k .held, loaded k .blank, sheet-held k))
     returns-3)

@@ -6,7 +6,7 @@ use native.Mathlib.Nat.{sub-zero}
 use native.Mathlib.Omega.{arith}
 use Rattle.row.specs.Memory.{listed, tagAt, tagsOf}
 use Rattle.verdict.specs.Memory.{leading}
-use Rattle.verdict.proofs.Matchings.{lead-end, lead-other, lead-on}
+use Rattle.verdict.proofs.Antecedent.{lead-end, lead-other, lead-on}
 use Rattle.verdict.proofs.leading_rows.Statement.{statement}
 use Rattle.verdict.proofs.leading_rows.Tie as tie
 

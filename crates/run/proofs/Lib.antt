@@ -1,0 +1,3 @@
+pub mod Scans
+pub mod Words
+pub mod Logs
