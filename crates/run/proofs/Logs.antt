@@ -1,7 +1,7 @@
 -- The log in memory: what its words say of positions, and that its run has the laws that the theorems on rows ask.
 -- Assumes nothing.
 use mathlib.Core.Path.{_≡_, refl, sym, _∙_, ap, subst}
-use mathlib.Core.Bool.{Bool, true, false, cond, and-false}
+use mathlib.Core.Bool.{true, false, cond, and-false}
 use mathlib.Core.List.{List, [], _∷_}
 use Prim.Native.Nat.{ℕ, zero, suc, _+_, _-_, _≤_, _<_, min, max}
 use native.Mathlib.Omega.{arith}
@@ -16,8 +16,8 @@ use Rattle.scenario.proofs.Rules.{Laws, between-up, between-down, Between, up, 
 use Rattle.scenario.proofs.Logs.{laws, inSet-full}
 use Rattle.scenario.proofs.Clock.{near-one, near-apart, without-overflow}
 use Rattle.scenario.specs.Walk.{lowest-above}
-use Rattle.run.specs.Words.{position-count, ticksIn, eventsIn, line-count}
-use Rattle.run.specs.Held.{Events, Held, part, logAt, runAt, bare, tickOf, nearOf, logHeld, runHeld, orZero}
+use Rattle.run.specs.Words.{ticksIn, eventsIn, line-count}
+use Rattle.run.specs.Held.{Events, Held, part, logAt, bare, tickOf, nearOf, logHeld, runHeld, orZero}
 use Rattle.run.proofs.Words.{ticks-length}
 use Rattle.run.proofs.Scans.{Next, nowhere, here, next-of}
 

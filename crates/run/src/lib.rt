@@ -1,7 +1,7 @@
 // A run in memory, one array: of each position its tick and its event, of each event a map of the lines that have it, and the number of lines.
 ghost use mathlib.Core.Path.{_≡_};
-ghost use Prim.Native.Nat.{ℕ, _+_, _*_, _≤_, _<_, _-_, min, max};
-ghost use lib.ListN.{length, getD, set};
+ghost use Prim.Native.Nat.{_+_, _*_, _<_, _-_, min, max};
+ghost use lib.ListN.{getD, set};
 ghost use Rattle.scenario.specs.Rows.{set-of, lower-half as lowerOf, upper-half as upperOf};
 ghost use Rattle.scenario.specs.Log.{inSet, hasAt, gap, sure};
 ghost use Rattle.run.specs.Words.{position-count, ticksIn, eventsIn, line-count};

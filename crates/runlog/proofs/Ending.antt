@@ -6,7 +6,7 @@ use Prim.Native.Nat.{ℕ, _≤_, _<_}
 use borrow.Author.Tests.{eq-eqb, ne-eqb, lt-ltb, le-ltb}
 use Rattle.runlog.specs.Numbers.{close-below}
 use Rattle.runlog.specs.declared.Head.{Head}
-use Rattle.runlog.specs.Log.{headOf, Taken, linesFrom, taken, refused, accepted, closing, answer}
+use Rattle.runlog.specs.Log.{headOf, linesFrom, taken, refused, accepted, closing, answer}
 use Rattle.runlog.proofs.Whole.{FirstSeen, first-seen}
 
 module _ (s : List ℕ) (h : Head) (e : h ≡ headOf s) where

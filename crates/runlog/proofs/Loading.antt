@@ -1,6 +1,6 @@
 -- What reading leaves in memory is the log of its text.
 -- Assumes nothing.
-use mathlib.Core.Path.{_≡_, refl, sym, _∙_, ap, ap₂, subst}
+use mathlib.Core.Path.{_≡_, refl, sym, _∙_, ap, subst}
 use mathlib.Core.Logic.{_⊎_, inl, inr}
 use mathlib.Core.List.{List, [], _∷_}
 use Prim.Native.Nat.{ℕ, zero, suc, _+_, _-_, _*_, _≤_, _<_}
@@ -9,11 +9,10 @@ use lib.ListN.{length, getD, set, replicate, length-set}
 use lib.Seq.{getD-set-same, getD-set-other, ext-getD}
 use Rattle.scenario.specs.Rows.{event-count, set-of, lower-half, upper-half, full-half}
 use Rattle.scenario.specs.Log.{most-lines, Log, tick}
-use Rattle.scenario.proofs.Base.{all-getD, Order, lower, level, upper, order}
+use Rattle.scenario.proofs.Base.{all-getD}
 use Rattle.scenario.proofs.Halves.{lower-half-of, upper-half-of}
 use Rattle.run.specs.Words.{position-count, run-room, ticksIn, eventsIn, mapIn, present, line-count}
-use Rattle.run.specs.Maps.{Blank}
-use Rattle.run.specs.Held.{Events, Held, part, logAt, tickOf}
+use Rattle.run.specs.Held.{part, logAt, tickOf}
 use Rattle.run.proofs.Words.{tick-half, event-half, ticks-length, events-length}
 use Rattle.run.proofs.Logs.{default, part-length, part-at, tick-is}
 use Rattle.runlog.specs.declared.Answer.{Answer}

@@ -8,7 +8,7 @@ use native.Mathlib.Omega.{arith}
 use lib.ListN.{length, take, length-map, length-append}
 use lib.Seq.{take-at}
 use borrow.Author.Tests.{eq-eqb, ne-eqb}
-use Rattle.scenario.specs.Rows.{Row, points}
+use Rattle.scenario.specs.Rows.{Row}
 use Rattle.scenario.specs.Sheet.{Sheet, count as countOf, antiscenario, chosen, choices, choose, total, flat}
 use Rattle.scenario.specs.Fields.{Tagged, tagged}
 use Rattle.scenario.specs.Reading.{SheetRead, Pattern}
@@ -80,9 +80,6 @@ module _ (rows : List ℕ) (count k : ℕ) (S : SheetHeld rows count k) where
     where
       read : SheetRead alone
       read = record { numbers = S .read .numbers; few = S .read .few; uses = S .read .uses; consequents = tt; count = omega arith }
-
-  pub antecedent-few : length (points (whole-sheet .antecedent)) ≤ 4
-  antecedent-few = S .read .few
 
   pub rows-pattern : (a : ℕ) → a ≡ length (whole-sheet .antecedent) → Pattern (rowsOf rows a)
   rows-pattern a e = subst Pattern (sym (ap (rowsOf rows) e ∙ antecedent-rows)) antecedent-pattern

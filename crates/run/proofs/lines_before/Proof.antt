@@ -1,5 +1,4 @@
 -- The lines up to low have ticks below the limit, those behind high have not (Logs.ticks-rise).
-use mathlib.Core.Path.{_≡_}
 use Prim.Native.Nat.{ℕ, _+_, _-_, _/_, _≤_, _<_}
 use native.Mathlib.Omega.{arith}
 use lib.ListN.{getD}

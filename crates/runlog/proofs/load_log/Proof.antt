@@ -1,7 +1,7 @@
 -- `load_log` meets its contract: first line, lines, close tick; then the start is put before the lines and the close behind.
 -- Assumes nothing.
 use borrow.Author.Needs.{needs}
-use mathlib.Core.Path.{_≡_, sym, ap, _∙_}
+use mathlib.Core.Path.{sym, ap, _∙_}
 use Prim.Native.Nat.{_≤_}
 use native.Mathlib.Omega.{arith}
 use Rattle.runlog.specs.declared.Answer.{Answer}

@@ -1,20 +1,18 @@
 -- From matching to matching, the smallest violating placement at or after where the loop stands is the smallest of all. The laws are in Loop; here they are held against the code, place by place.
 use mathlib.Core.Path.{_≡_, sym, ap, _∙_}
-use mathlib.Core.Bool.{true}
 use mathlib.Core.List.{List, map}
 use Prim.Native.Nat.{ℕ, _+_, _≤_, _<_}
 use native.Mathlib.Omega.{arith}
-use lib.ListN.{length, getD, take}
+use lib.ListN.{length, take}
 use lib.Seq.{length-take-le}
 use borrow.Author.Tests.{not-true, not-false}
-use Rattle.scenario.specs.Rows.{Run, points}
+use Rattle.scenario.specs.Rows.{points}
 use Rattle.run.specs.Words.{eventsIn, line-count}
 use Rattle.run.specs.Held.{Held, part, runHeld}
 use Rattle.row.specs.Memory.{rowsOf}
 use Rattle.sheet.specs.Held.{sheetAt, SheetHeld}
 use Rattle.pattern.specs.Placing.{by}
-use Rattle.plan.specs.Due.{ready}
-use Rattle.plan.specs.Tables.{point-count, row-count, pointsIn, slotsIn}
+use Rattle.plan.specs.Tables.{point-count, row-count, pointsIn}
 use Rattle.placement.specs.Placing.{Prepared}
 use Rattle.placement.proofs.Starting.{blank as blank-env, roomy}
 use Rattle.verdict.specs.Memory.{AntecedentPlanned, Reaches}
