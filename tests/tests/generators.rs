@@ -351,6 +351,12 @@ fn chains_show_every_slip() {
     show_every_slip("the families", &chains().into_iter().flat_map(|family| family.sheets).collect::<Vec<_>>());
 }
 
+/// A pair that is accepted, as it is read.
+fn accepted(pair: &Pair) -> (Sheet, Log) {
+    let opened = open(&pair.sheet, &pair.log, Blunder::None);
+    (opened.sheet.expect("accepted"), opened.log.expect("accepted"))
+}
+
 /// An ordinary rule's antecedent, and how many of its points, in order, are all that each consequent speaks of.
 fn of_rule(reached: &mut Reached, sheet: &Sheet, log: &Log) {
     let antecedent = sheet.section(0);
@@ -417,12 +423,10 @@ fn narrowed_and_skipped() -> Vec<String> {
 #[test]
 fn rules_reach_what_is_narrowed_and_skipped() {
     let mut reached = Reached::new();
-    for pair in (0..2000).map(rule_pair_of) {
-        let opened = open(&pair.sheet, &pair.log, Blunder::None);
-        let (sheet, log) = (opened.sheet.as_ref().expect("accepted"), opened.log.as_ref().expect("accepted"));
-        of_rule(&mut reached, sheet, log);
-        of_smallest(&mut reached, sheet, log);
-        if is_violated_later(sheet, log) {
+    for (sheet, log) in (0..2000).map(|seed| accepted(&rule_pair_of(seed))) {
+        of_rule(&mut reached, &sheet, &log);
+        of_smallest(&mut reached, &sheet, &log);
+        if is_violated_later(&sheet, &log) {
             count(&mut reached, "violated later".into());
         }
     }
@@ -438,11 +442,9 @@ fn rules_reach_what_is_narrowed_and_skipped() {
 #[test]
 fn longer_rules_reach_the_second_word() {
     let mut reached = Reached::new();
-    for pair in (0..300).map(longer_rule_pair_of) {
-        let opened = open(&pair.sheet, &pair.log, Blunder::None);
-        let (sheet, log) = (opened.sheet.as_ref().expect("accepted"), opened.log.as_ref().expect("accepted"));
+    for (sheet, log) in (0..300).map(|seed| accepted(&longer_rule_pair_of(seed))) {
         count(&mut reached, format!("n {}", log.n()));
-        let Some(smallest) = weeded::smallest(&sheet.section(0), log) else { continue };
+        let Some(smallest) = weeded::smallest(&sheet.section(0), &log) else { continue };
         count(&mut reached, "matched".into());
         if smallest.iter().any(|position| *position >= 64) {
             count(&mut reached, "a point in the second word".into());
