@@ -18,6 +18,7 @@ pub mod Faults
 pub mod Frame
 pub mod Demand
 pub mod Least
+pub mod Matchings
 pub mod Whole
 -- Sheets and logs that are read.
 pub mod Halves

@@ -8,6 +8,7 @@ pub mod Sheet
 pub mod Fields
 pub mod Walk
 pub mod Search
+pub mod Matchings
 pub mod Reading
 pub mod Clock
 pub mod Before
