@@ -16,7 +16,7 @@ use Rattle.scenario.specs.Rows.{Row, point, next, last, earlier, later, before,
 use Rattle.scenario.specs.Walk.{placing, lowest-above, highest-below, onto, stay, advance, Walk, through, stops, later-stop, walk}
 use Rattle.scenario.specs.Sheet.{Sheet}
 use Rattle.scenario.specs.Search.{faults}
-use Rattle.scenario.specs.Fields.{Tagged, tagged}
+use Rattle.scenario.specs.Fields.{Tagged, tagged, tag}
 use Rattle.scenario.proofs.Base.{tell, is-true, is-false, neqb→neq, Order, lower, level, upper, order, all-map, all-append, all-front, all-back, all-at, all-elem, Up, Down, scan-up, scan-down}
 use Rattle.scenario.specs.Reading.{All}
 use Rattle.scenario.proofs.Rules.{Laws, meets-same}
@@ -31,9 +31,6 @@ use Rattle.run.specs.Held.{orZero}
 use Rattle.consequent.specs.Walk.{ontoIn, stayIn, advanceIn, orKeep, onward, faultIn, Elsewhere, Kept}
 use Rattle.sheet.specs.Held.{sheetAt, SheetHeld}
 use Rattle.consequent.proofs.Advancing.{advance-leaves}
-
-abbrev pub tag : ℕ → Row → Tagged
-tag i r = record { section = i; row = r }
 
 -- the row's number where the walk stops, j rows standing before; 0 where it goes through
 abbrev pub number : ℕ → Walk → ℕ

@@ -50,10 +50,14 @@ pub record Tagged : Type 0 where
   pub section : ℕ
   pub row : Row
 
+-- a row of section i
+abbrev pub tag : ℕ → Row → Tagged
+tag i r = record { section = i; row = r }
+
 -- the rows of lists for the sections from number i on
 unfoldable pub tagged : ℕ → List (List Row) → List Tagged
 tagged i [] = []
-tagged i (l ∷ ls) = map (λ r. record { section = i; row = r }) l ++ tagged (suc i) ls
+tagged i (l ∷ ls) = map (tag i) l ++ tagged (suc i) ls
 
 -- "It is written as .. rows, each with the section it came from": antiscenario m.
 unfoldable pub written : Sheet → ℕ → List Tagged

@@ -118,7 +118,7 @@ module _ (s l : List ℕ) (A : Accepted s l) where
   hits places nothing e = let z : _≡_ {A = ℕ} 0 1 = cc in absurd (omega arith)
   hits places (found zs) e = (zs, refl)
 
-  placement-is : (xs : List ℕ) → placementIn (verdictOf run sheet (found xs)) ≡ xs
+  pub placement-is : (xs : List ℕ) → placementIn (verdictOf run sheet (found xs)) ≡ xs
   unfolding verdictOf violatedAt front
   placement-is xs = take-at xs (drop (length xs) (replicate 4 0)) (length xs) refl
 

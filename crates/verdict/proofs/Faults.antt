@@ -12,7 +12,7 @@ use Rattle.scenario.specs.Rows.{Row, Run, Env, points}
 use Rattle.scenario.specs.Walk.{Walk, through, stops, walk}
 use Rattle.scenario.specs.Sheet.{Sheet, all, env}
 use Rattle.scenario.specs.Search.{stopped, place-of, faults}
-use Rattle.scenario.specs.Fields.{Tagged, tagged}
+use Rattle.scenario.specs.Fields.{Tagged, tag, tagged}
 use Rattle.scenario.specs.Reading.{All}
 use Rattle.scenario.proofs.Base.{both, all-front, all-back}
 use Rattle.scenario.proofs.Rules.{Laws}
@@ -22,7 +22,7 @@ use Rattle.runlog.proofs.Whole.{lay-is}
 use Rattle.verdict.specs.Check.{front}
 use Rattle.runlog.specs.Log.{lay}
 use Rattle.consequent.specs.Walk.{faultIn, faulty, faultsIn}
-use Rattle.consequent.proofs.Walk.{tag, Behind, faults-length, first-behind, next-behind, number, section-at}
+use Rattle.consequent.proofs.Walk.{Behind, faults-length, first-behind, next-behind, number, section-at}
 
 -- One of the consequents cs goes through, and each of its rows has the property Q.
 pub record Through (halted : List Row → Bool) (Q : Row → Type 0) (cs : List (List Row)) : Type 0 where

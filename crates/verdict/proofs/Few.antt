@@ -65,7 +65,7 @@ pub record Few (c : Checked) : Type 0 where
   pub positions : All (λ (x : ℕ). x ≤ 4000) (placementIn c)
   pub rows : All (λ (x : ℕ). x ≤ 176) (rowsIn c)
 
-blank-few : (r : ℕ) → r ≤ 27 → Few (blank r)
+pub blank-few : (r : ℕ) → r ≤ 27 → Few (blank r)
 blank-few r h = record { refusal = h; points = omega arith; consequents = omega arith; positions = tt; rows = tt }
 
 module _ (s l : List ℕ) where

@@ -3,10 +3,10 @@ pub mod DemandThree
 pub mod Before
 pub mod Unmoved
 pub mod Long
-pub mod Antecedent
+pub mod Faults
 pub mod Skipping
+pub mod Turn
 pub mod Loop
 pub mod Reading
 pub mod Examples
-pub mod Faults
 pub mod Few

@@ -9,7 +9,7 @@ use lib.ListN.{length, getD, set, take, drop}
 use lib.Seq.{getD-set-same, getD-set-other}
 use lib.Dec.{T, eqb, eqb→eq}
 use Rattle.scenario.specs.Rows.{Row, introduced, needs, elem}
-use Rattle.scenario.specs.Fields.{Tagged, tagged}
+use Rattle.scenario.specs.Fields.{Tagged, tag, tagged}
 use Rattle.scenario.specs.Reading.{All, Ordinary, Distinct}
 use Rattle.scenario.proofs.Base.{either, right, neqb→neq, tell, Order, lower, level, upper, order, all-map, all-append, all-at, all-elem, elem-at, elem-back}
 use Rattle.row.specs.Memory.{sectionAt, rowAt, listed, tagAt, tagsOf}
@@ -84,9 +84,9 @@ module _ (rows : List ℕ) (count k : ℕ) (S : SheetHeld rows count k) where
   tagged-below : (i n : ℕ) (cs : List (List Row)) → i + length cs ≤ n → All (λ (t : Tagged). t .section < n) (tagged i cs)
   unfolding tagged
   tagged-below i n [] h = tt
-  tagged-below i n (c ∷ cs) h = all-append (λ (t : Tagged). t .section < n) (map (λ r. record { section = i; row = r }) c) (tagged (suc i) cs) (own c) (tagged-below (suc i) n cs (omega arith))
+  tagged-below i n (c ∷ cs) h = all-append (λ (t : Tagged). t .section < n) (map (tag i) c) (tagged (suc i) cs) (own c) (tagged-below (suc i) n cs (omega arith))
     where
-      own : (c : List Row) → All (λ (t : Tagged). t .section < n) (map (λ r. record { section = i; row = r }) c)
+      own : (c : List Row) → All (λ (t : Tagged). t .section < n) (map (tag i) c)
       own [] = tt
       own (r ∷ c) = (omega arith, own c)
 

@@ -1,29 +1,15 @@
--- What the check has in memory beside the sheet's rows: how many of them are the antecedent's, the plan for those, and how far into its points each section reaches. Inner vocabulary.
+-- What the check has in memory beside the sheet's rows and the plan: how far into the antecedent's points each section reaches; and how its answer is put together. Inner vocabulary.
 -- Assumes nothing.
 use mathlib.Core.Path.{_≡_}
-use mathlib.Core.Bool.{cond}
-use mathlib.Core.List.{List, [], _∷_}
-use Prim.Native.Nat.{ℕ, suc, _≤_, _<_}
-use lib.ListN.{length, getD}
-use lib.Dec.{eqb}
-use Rattle.scenario.specs.Fields.{Tagged}
-use Rattle.scenario.specs.Reading.{Pattern}
-use Rattle.row.specs.Memory.{sectionAt, rowAt, rowsOf}
-use Rattle.sheet.specs.Held.{sheetAt}
+use mathlib.Core.Bool.{true}
+use mathlib.Core.List.{List, _++_, map}
+use Prim.Native.Nat.{ℕ, _≤_, _<_}
+use lib.ListN.{length, getD, take, drop, replicate}
+use Rattle.row.specs.Memory.{sectionAt, rowAt}
+use Rattle.pattern.specs.Placing.{by}
 use Rattle.plan.specs.Due.{due}
-use Rattle.plan.specs.Tables.{row-count, Drawn}
-
--- how many rows of section 0 stand at the front
-unfoldable pub leading : List Tagged → ℕ
-leading [] = 0
-leading (t ∷ ts) = cond (eqb (t .section) 0) (suc (leading ts)) 0
-
--- The plan is drawn up for the antecedent's rows.
-pub record AntecedentPlanned (rows : List ℕ) (count k : ℕ) (plan : List ℕ) : Type 0 where
-  pub antecedent-rows : rowsOf rows (row-count plan) ≡ sheetAt rows count k .antecedent
-  pub drawn : Drawn rows plan
-  pub pattern : Pattern (rowsOf rows (row-count plan))
-  pub few : row-count plan ≤ 200
+use Rattle.plan.specs.Tables.{point-count, pointsIn}
+use Rattle.verdict.specs.declared.Checked.{Checked}
 
 -- section 0 and at most 6 others
 abbrev pub section-count : ℕ
@@ -34,3 +20,11 @@ pub record Reaches (rows : List ℕ) (count : ℕ) (ps reaches : List ℕ) : Typ
   pub size : length reaches ≡ section-count
   pub most : (s : ℕ) → getD reaches s 0 ≤ length ps
   pub used : (j : ℕ) → j < count → due ps (rowAt rows j) ≤ getD reaches (sectionAt rows j) 0
+
+-- the positions of the plan's points, in order, at the front of zeros
+abbrev pub placesIn : (plan positions : List ℕ) → List ℕ
+placesIn plan positions = map (by positions) (take (point-count plan) (pointsIn plan)) ++ drop (point-count plan) (replicate 4 0)
+
+-- an answer's numbers and arrays, where violated
+abbrev pub violatedBy : (points consequents : ℕ) (positions rows : List ℕ) → Checked
+violatedBy points consequents positions rows = record { refusal = 0; violated = true; points = points; consequents = consequents; positions = positions; rows = rows }

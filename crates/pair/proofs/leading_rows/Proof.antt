@@ -5,10 +5,10 @@ use Prim.Native.Nat.{_+_, _≤_, _-_}
 use native.Mathlib.Nat.{sub-zero}
 use native.Mathlib.Omega.{arith}
 use Rattle.row.specs.Memory.{listed, tagAt, tagsOf}
-use Rattle.verdict.specs.Memory.{leading}
-use Rattle.verdict.proofs.Antecedent.{lead-end, lead-other, lead-on}
-use Rattle.verdict.proofs.leading_rows.Statement.{statement}
-use Rattle.verdict.proofs.leading_rows.Tie as tie
+use Rattle.pair.specs.Antecedent.{leading}
+use Rattle.pair.proofs.Antecedent.{lead-end, lead-other, lead-on}
+use Rattle.pair.proofs.leading_rows.Statement.{statement}
+use Rattle.pair.proofs.leading_rows.Tie as tie
 
 abbrev Inv-loop : tie.InvT-loop
 Inv-loop rows count j₀ j = (j ≤ count) × (j + leading (listed (tagAt rows) j (count - j)) ≡ leading (tagsOf rows count))

@@ -10,14 +10,13 @@ use lib.Seq.{take-at}
 use borrow.Author.Tests.{eq-eqb, ne-eqb}
 use Rattle.scenario.specs.Rows.{Row}
 use Rattle.scenario.specs.Sheet.{Sheet, count as countOf, antiscenario, chosen, choices, choose, total, flat}
-use Rattle.scenario.specs.Fields.{Tagged, tagged}
+use Rattle.scenario.specs.Fields.{Tagged, tag, tagged}
 use Rattle.scenario.specs.Reading.{SheetRead, Pattern}
 use Rattle.scenario.proofs.Patterns.{antiscenario-pattern}
 use Rattle.row.specs.Memory.{sectionAt, rowAt, listed, rowsOf, tagAt, tagsOf}
 use Rattle.sheet.specs.Held.{sheetAt, SheetHeld}
 use Rattle.plan.specs.Tables.{row-count, Drawn}
-use Rattle.consequent.proofs.Walk.{tag}
-use Rattle.verdict.specs.Memory.{leading, AntecedentPlanned}
+use Rattle.pair.specs.Antecedent.{leading, AntecedentPlanned}
 
 -- The antecedent's rows stand first.
 
