@@ -1,6 +1,6 @@
 -- What a host gets, by how an operation ends.
 -- Assumes nothing.
-use mathlib.Core.Path.{_≡_, refl, sym, _∙_}
+use mathlib.Core.Path.{_≡_, refl, sym, _∙_, ap, subst}
 use mathlib.Core.Bool.{Bool, true, false, not, cond}
 use mathlib.Core.List.{List, _++_}
 use Prim.Native.Nat.{ℕ, suc, _+_, _<_}
@@ -19,7 +19,8 @@ use Rattle.sheet.specs.Reading.{sheetIn, answer as sheet-answer}
 use Rattle.runlog.specs.Log.{runIn, answer as log-answer}
 use Rattle.verdict.specs.declared.Checked.{Checked}
 use Rattle.verdict.specs.Check.{blank, violatedAt, verdictOf, checkOf}
-use Rattle.bench.specs.Host.{hostNumber, unlessRefused, whenViolated, fieldNumber, fieldValue}
+use Rattle.limit.specs.declared.Limited.{Limited}
+use Rattle.bench.specs.Host.{hostNumber, limitedNumber, unlessRefused, whenViolated, fronted, fieldNumber, fieldValue}
 
 -- The check's number
 
@@ -35,6 +36,23 @@ module _ (c : Checked) where
   pub number-holds : c .refusal ≡ 0 → c .violated ≡ false → hostNumber c ≡ 0
   unfolding hostNumber
   number-holds z v = simp (eq-eqb (c .refusal) 0 z, v)
+
+module _ (c : Limited) where
+  pub limited-stopped : c .stopped ≡ true → 102 ≡ limitedNumber c
+  unfolding limitedNumber
+  limited-stopped e = simp e
+
+  pub limited-ended : c .stopped ≡ false → hostNumber (c .checked) ≡ limitedNumber c
+  unfolding limitedNumber
+  limited-ended e = simp e
+
+  -- what is refused has not stopped
+  pub limited-refused : (c .stopped ≡ true → c .checked .refusal ≡ 0) → (c .checked .refusal ≡ 0 → ⊥) → hostNumber (c .checked) ≡ limitedNumber c
+  limited-refused h n = go (c .stopped) refl
+    where
+      go : (b : Bool) → c .stopped ≡ b → hostNumber (c .checked) ≡ limitedNumber c
+      go true e = absurd (n (h e))
+      go false e = limited-ended e
 
 -- what is refused is not violated
 judged-unviolated : (run : Run) (sheet : Sheet) (a : Answer) → (verdictOf run sheet a .refusal ≡ 0 → ⊥) → verdictOf run sheet a .violated ≡ false
@@ -70,6 +88,36 @@ module _ {A : Type 0} where
   pub violated-writes : (c : Checked) (v value old : A) → c .violated ≡ true → v ≡ value → v ≡ whenViolated c value old
   unfolding whenViolated
   violated-writes c v value old e q = rw e q
+
+-- Findings that are told of an answer c, by what stands in lent memory before and after; and of another that is the same
+
+abbrev pub Told : Checked → (number : ℕ) (positions positions' : List ℕ) (points points' : ℕ) (rows rows' : List ℕ) (consequents consequents' : ℕ) → Type 0
+Told c number positions positions' points points' rows rows' consequents consequents' =
+    (number ≡ hostNumber c)
+    × ((positions' ≡ whenViolated c (fronted (c .points) (c .positions) positions) positions)
+    × ((points' ≡ whenViolated c (c .points) points)
+    × ((rows' ≡ whenViolated c (fronted (c .consequents) (c .rows) rows) rows) × (consequents' ≡ whenViolated c (c .consequents) consequents))))
+
+pub told-same : (c d : Checked) → c ≡ d → (number : ℕ) (positions positions' : List ℕ) (points points' : ℕ) (rows rows' : List ℕ) (consequents consequents' : ℕ)
+    → Told c number positions positions' points points' rows rows' consequents consequents' → Told d number positions positions' points points' rows rows' consequents consequents'
+told-same c d e number positions positions' points points' rows rows' consequents consequents' =
+    subst (λ (z : Checked). Told z number positions positions' points points' rows rows' consequents consequents') e
+
+-- the same with a limit: d is what is asked, c what there is, which is not refused
+module _ (c d : Limited) (e : c ≡ d) (z : c .checked .refusal ≡ 0) where
+  pub limited-written : (number : ℕ) (positions positions' : List ℕ) (points points' : ℕ) (rows rows' : List ℕ) (consequents consequents' looked after : ℕ)
+      → Told (c .checked) number positions positions' points points' rows rows' consequents consequents'
+      → (positions' ≡ whenViolated (d .checked) (fronted (d .checked .points) (d .checked .positions) positions) positions)
+      × ((points' ≡ whenViolated (d .checked) (d .checked .points) points)
+      × ((rows' ≡ whenViolated (d .checked) (fronted (d .checked .consequents) (d .checked .rows) rows) rows)
+      × ((consequents' ≡ whenViolated (d .checked) (d .checked .consequents) consequents)
+      × ((c .looked ≡ unlessRefused (d .checked .refusal) (d .looked) looked) × (c .after ≡ unlessRefused (d .checked .refusal) (d .after) after)))))
+  limited-written number positions positions' points points' rows rows' consequents consequents' looked after t =
+      let q = told-same (c .checked) (d .checked) (ap (λ (r : Limited). r .checked) e) number positions positions' points points' rows rows' consequents consequents' t in
+      let refusal = ap (λ (r : Limited). r .checked .refusal) e in (
+        q .1 .0,
+        (q .1 .1 .0, (q .1 .1 .1 .0, (q .1 .1 .1 .1, (answered-writes _ _ _ _ _ refusal z (ap (λ (r : Limited). r .looked) e) .1, answered-writes _ _ _ _ _ refusal z (ap (λ (r : Limited). r .after) e) .1)))),
+      )
 
 -- Fields
 

@@ -10,10 +10,15 @@ use Rattle.columns.specs.declared.Field.the-variants.{Value, Bad}
 use Rattle.columns.specs.declared.Entry.{Entry}
 use Rattle.columns.specs.declared.Entry.the-variants.{Written, Refused}
 use Rattle.verdict.specs.declared.Checked.{Checked}
+use Rattle.limit.specs.declared.Limited.{Limited}
 
 -- document 01: the refusal's, or else 0 for holds and 100 for violated
 unfoldable pub hostNumber : Checked → ℕ
 hostNumber c = cond (eqb (c .refusal) 0) (cond (c .violated) 100 0) (c .refusal)
+
+-- document 02, A10: "stopped" is a third answer, 102
+unfoldable pub limitedNumber : Limited → ℕ
+limitedNumber c = cond (c .stopped) 102 (hostNumber (c .checked))
 
 module _ {A : Type 0} where
   -- what is lent for an answer: its value, or what was there where the operation is refused

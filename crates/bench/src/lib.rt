@@ -1,6 +1,7 @@
 // The C interface, a static library: each operation of document 01 for a host. Its answer is one number, its findings go to the
 // caller's memory, and a refusal writes nowhere. include/satskhubo.h says the same to the host's author.
 ghost use mathlib.Core.Path.{_≡_};
+ghost use mathlib.Core.Bool.{false};
 ghost use Prim.Native.Nat.{_-_, _≤_};
 ghost use lib.ListN.{length};
 ghost use Rattle.columns.specs.Number.{fieldAt};
@@ -11,10 +12,14 @@ ghost use Rattle.antiscenario.specs.Judge.{judgeOf};
 ghost use Rattle.antiscenario.specs.Write.{writeOf, afterWrite};
 ghost use Rattle.search.specs.Searching.{searchOf};
 ghost use Rattle.verdict.specs.Check.{checkOf};
+ghost use Rattle.limit.specs.Limit.{limitedOf};
 ghost use Rattle.line.specs.Showing.{partOf, shownLine};
-ghost use Rattle.bench.specs.Host.{hostNumber, unlessRefused, whenViolated, fronted, fieldNumber, fieldValue, entryNumber};
+ghost use Rattle.bench.specs.Host.{hostNumber, limitedNumber, unlessRefused, whenViolated, fronted, fieldNumber, fieldValue, entryNumber};
 
 const VIOLATED: u32 = 100;
+
+// Document 02, A10: the check has looked at as many matchings as it may, and there is one more.
+const STOPPED: u32 = 102;
 
 // The check for the bench: the refusal's number, or else 0 for holds and 100 for violated.
 #[no_mangle]
@@ -132,6 +137,36 @@ fn copy_front(from: &[u32], count: usize, to: &mut [u32])
     }
 }
 
+// The number of a check's answer; its findings, where it is violated, go to the caller's memory.
+fn tell(
+    c: verdict::Checked,
+    positions: &mut [u32; 4],
+    points: &mut u32,
+    rows: &mut [u32; 6],
+    consequents: &mut u32,
+) -> u32
+    requires { ⌜ (c .points ≤ 4) × (c .consequents ≤ 6) × ((c .refusal ≡ 0 → ⊥) → c .violated ≡ false) ⌝ }
+    ensures answer { λ r. ⌜ r ≡ hostNumber c ⌝ }
+    ensures positions { λ _. ⌜ now (positions .exit) ≡ whenViolated c (fronted (c .points) (c .positions) (now (positions .entry))) (now (positions .entry)) ⌝ }
+    ensures points { λ _. ⌜ now (points .exit) ≡ whenViolated c (c .points) (now (points .entry)) ⌝ }
+    ensures rows { λ _. ⌜ now (rows .exit) ≡ whenViolated c (fronted (c .consequents) (c .rows) (now (rows .entry))) (now (rows .entry)) ⌝ }
+    ensures consequents { λ _. ⌜ now (consequents .exit) ≡ whenViolated c (c .consequents) (now (consequents .entry)) ⌝ }
+{
+    if c.refusal != 0 {
+        return c.refusal;
+    }
+    if !c.violated {
+        return 0;
+    }
+    let at = c.positions;
+    copy_front(&at, c.points as usize, positions);
+    let faults = c.rows;
+    copy_front(&faults, c.consequents as usize, rows);
+    *points = c.points;
+    *consequents = c.consequents;
+    VIOLATED
+}
+
 // The check with its findings: the smallest placement that extends to no consequent, and the row at fault of each.
 #[no_mangle]
 pub extern "C" fn satskhubo_check(
@@ -148,20 +183,48 @@ pub extern "C" fn satskhubo_check(
     ensures rows { λ _. ⌜ now (rows .exit) ≡ whenViolated (checkOf (now (sheet .entry)) (now (log .entry))) (fronted (checkOf (now (sheet .entry)) (now (log .entry)) .consequents) (checkOf (now (sheet .entry)) (now (log .entry)) .rows) (now (rows .entry))) (now (rows .entry)) ⌝ }
     ensures consequents { λ _. ⌜ now (consequents .exit) ≡ whenViolated (checkOf (now (sheet .entry)) (now (log .entry))) (checkOf (now (sheet .entry)) (now (log .entry)) .consequents) (now (consequents .entry)) ⌝ }
 {
-    let c = verdict::check(sheet, log);
-    if c.refusal != 0 {
-        return c.refusal;
+    tell(
+        verdict::check(sheet, log),
+        positions,
+        points,
+        rows,
+        consequents,
+    )
+}
+
+// The check with a limit: its findings as those of the check, the number of matchings looked at, and how many placements come after the last of them.
+#[no_mangle]
+pub extern "C" fn satskhubo_check_limited(
+    sheet: &[u8],
+    log: &[u8],
+    limit: u64,
+    positions: &mut [u32; 4],
+    points: &mut u32,
+    rows: &mut [u32; 6],
+    consequents: &mut u32,
+    looked: &mut u64,
+    after: &mut u64,
+) -> u32
+    ensures answer { λ r. ⌜ r ≡ limitedNumber (limitedOf (now (sheet .entry)) (now (log .entry)) limit) ⌝ }
+    ensures positions { λ _. ⌜ now (positions .exit) ≡ whenViolated (limitedOf (now (sheet .entry)) (now (log .entry)) limit .checked) (fronted (limitedOf (now (sheet .entry)) (now (log .entry)) limit .checked .points) (limitedOf (now (sheet .entry)) (now (log .entry)) limit .checked .positions) (now (positions .entry))) (now (positions .entry)) ⌝ }
+    ensures points { λ _. ⌜ now (points .exit) ≡ whenViolated (limitedOf (now (sheet .entry)) (now (log .entry)) limit .checked) (limitedOf (now (sheet .entry)) (now (log .entry)) limit .checked .points) (now (points .entry)) ⌝ }
+    ensures rows { λ _. ⌜ now (rows .exit) ≡ whenViolated (limitedOf (now (sheet .entry)) (now (log .entry)) limit .checked) (fronted (limitedOf (now (sheet .entry)) (now (log .entry)) limit .checked .consequents) (limitedOf (now (sheet .entry)) (now (log .entry)) limit .checked .rows) (now (rows .entry))) (now (rows .entry)) ⌝ }
+    ensures consequents { λ _. ⌜ now (consequents .exit) ≡ whenViolated (limitedOf (now (sheet .entry)) (now (log .entry)) limit .checked) (limitedOf (now (sheet .entry)) (now (log .entry)) limit .checked .consequents) (now (consequents .entry)) ⌝ }
+    ensures looked { λ _. ⌜ now (looked .exit) ≡ unlessRefused (limitedOf (now (sheet .entry)) (now (log .entry)) limit .checked .refusal) (limitedOf (now (sheet .entry)) (now (log .entry)) limit .looked) (now (looked .entry)) ⌝ }
+    ensures after { λ _. ⌜ now (after .exit) ≡ unlessRefused (limitedOf (now (sheet .entry)) (now (log .entry)) limit .checked .refusal) (limitedOf (now (sheet .entry)) (now (log .entry)) limit .after) (now (after .entry)) ⌝ }
+{
+    let c = limit::check_limited(sheet, log, limit);
+    let checked = c.checked;
+    let number = tell(checked, positions, points, rows, consequents);
+    if checked.refusal != 0 {
+        return number;
     }
-    if !c.violated {
-        return 0;
+    *looked = c.looked;
+    *after = c.after;
+    if c.stopped {
+        return STOPPED;
     }
-    let at = c.positions;
-    copy_front(&at, c.points as usize, positions);
-    let faults = c.rows;
-    copy_front(&faults, c.consequents as usize, rows);
-    *points = c.points;
-    *consequents = c.consequents;
-    VIOLATED
+    number
 }
 
 // Show the line: the check's refusal, or 0, and the part that it is about. It refuses nothing.
