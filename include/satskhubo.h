@@ -9,8 +9,8 @@
  *
  * Every function gives one number. 1 to 10: the sheet is refused; 21 to 27: the log is refused; 31 to 34: the antiscenario's
  * number, the buffer, the places or the number of positions is refused; 0: the operation was carried out. The check gives 100 as
- * well: the sheet is violated. The sheet's refusals come before the log's, and the log's before 31 to 34. On a refusal no
- * memory of the caller's is written, but for satskhubo_show and satskhubo_line, which refuse nothing.
+ * well: the sheet is violated; with a limit also 102: it stopped. The sheet's refusals come before the log's, and the log's before
+ * 31 to 34. On a refusal no memory of the caller's is written, but for satskhubo_show and satskhubo_line, which refuse nothing.
  */
 #ifndef SATSKHUBO_H
 #define SATSKHUBO_H
@@ -79,6 +79,19 @@ uint32_t satskhubo_search(const uint8_t *sheet, size_t sheet_len, const uint8_t 
  */
 uint32_t satskhubo_check(const uint8_t *sheet, size_t sheet_len, const uint8_t *log, size_t log_len, uint32_t positions[4],
                          uint32_t *points, uint32_t rows[6], uint32_t *consequents);
+
+/*
+ * The check with a limit: looks at the antecedent's matchings in order, smallest first, and at no more than `limit` of them.
+ * 0, holds: there are at most `limit`, and all extend. 100, violated: one of the first `limit` extends to no consequent; the
+ * first four are written as by satskhubo_check. 102, stopped: the first `limit` all extend, and there is one more; whether the
+ * sheet holds is not known. With 0, 100 and 102 *looked is the number of matchings looked at, and *after how many of all
+ * placements of the antecedent's points, met or not, come after the last of them (all, where none was looked at): of these,
+ * besides the one that is written, at most so many can be violating. Unless it stops it says what satskhubo_check says, and with
+ * UINT64_MAX it never stops; satskhubo_check itself sets no limit. Else the refusal: all six are unchanged.
+ */
+uint32_t satskhubo_check_limited(const uint8_t *sheet, size_t sheet_len, const uint8_t *log, size_t log_len, uint64_t limit,
+                                 uint32_t positions[4], uint32_t *points, uint32_t rows[6], uint32_t *consequents,
+                                 uint64_t *looked, uint64_t *after);
 
 /*
  * Shows the line that the check's refusal is about. Gives that refusal, or 0, and always writes the part: *of_log says whether it

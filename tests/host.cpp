@@ -16,7 +16,7 @@ int main(int argc, char **argv) {
         return 2;
     const std::vector<uint8_t> sheet = load(argv[1]), log = load(argv[2]);
     uint32_t lines = 0, points = 0, consequents = 0, positions[4] = {}, rows[6] = {}, value = 0;
-    uint64_t count = 0;
+    uint64_t count = 0, looked = 0, after = 0;
     size_t length = 0, offset = 0;
     bool met = false, found = false, of_log = false;
     uint8_t text[SATSKHUBO_MOST_TEXT];
@@ -29,6 +29,8 @@ int main(int argc, char **argv) {
     std::printf("read_sheet %u %llu\n", answer, static_cast<unsigned long long>(count));
     answer = satskhubo_check(sheet.data(), sheet.size(), log.data(), log.size(), positions, &points, rows, &consequents);
     std::printf("satskhubo_check %u %u %u %u %u\n", answer, points, positions[0], consequents, rows[0]);
+    answer = satskhubo_check_limited(sheet.data(), sheet.size(), log.data(), log.size(), 1, positions, &points, rows, &consequents, &looked, &after);
+    std::printf("check_limited %u %llu %llu\n", answer, static_cast<unsigned long long>(looked), static_cast<unsigned long long>(after));
     answer = satskhubo_write(sheet.data(), sheet.size(), 2, text, sizeof text, &length);
     std::printf("write %u %zu\n", answer, length);
     answer = satskhubo_search(sheet.data(), sheet.size(), log.data(), log.size(), 2, placement.positions, SATSKHUBO_MOST_POINTS, &found);

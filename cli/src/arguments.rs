@@ -1,7 +1,7 @@
 //! What the command line asks for: a command, its options and its names, or a sentence that says what is wrong with it.
 use crate::names::{printable, Name};
 use crate::nearest::nearest;
-use crate::number::range;
+use crate::number::{number, range};
 use std::ffi::{OsStr, OsString};
 use std::ops::RangeInclusive;
 use std::os::unix::ffi::OsStrExt;
@@ -21,7 +21,7 @@ const COMMANDS: [(&str, Command); 4] = [
     ("explain", Command::Explain),
 ];
 
-const OPTIONS: [&str; 6] = ["--plain", "--json", "--events", "--number", "--help", "--version"];
+const OPTIONS: [&str; 7] = ["--plain", "--json", "--events", "--number", "--limit", "--help", "--version"];
 
 #[derive(Clone, Copy, Debug, PartialEq, Eq)]
 pub enum Form {
@@ -38,6 +38,8 @@ pub struct Asked {
     pub events: Option<Name>,
     /// The antiscenarios asked for; none for all.
     pub numbers: Option<RangeInclusive<u64>>,
+    /// How many of the antecedent's matchings the check looks at, at most; none for all.
+    pub limit: Option<u64>,
     pub sheet: Name,
     pub logs: Vec<Name>,
 }
@@ -56,6 +58,7 @@ struct Sorted {
     json: bool,
     events: Option<OsString>,
     number: Option<OsString>,
+    limit: Option<OsString>,
     names: Vec<OsString>,
     request: Option<Request>,
 }
@@ -132,6 +135,7 @@ impl Sorted {
         match name.as_ref() {
             "--events" => return keep(&mut self.events, &name, value.or_else(|| rest.next().map(OsString::as_os_str))),
             "--number" => return keep(&mut self.number, &name, value.or_else(|| rest.next().map(OsString::as_os_str))),
+            "--limit" => return keep(&mut self.limit, &name, value.or_else(|| rest.next().map(OsString::as_os_str))),
             "--plain" => self.plain = true,
             "--json" => self.json = true,
             "--help" => self.request = Some(Request::Help(Some(command))),
@@ -189,8 +193,18 @@ fn numbers_of(
     }
 }
 
+/// Document 02, A10: no command but check has a limit.
+fn limit_of(command: Command, by_option: Option<OsString>) -> Result<Option<u64>, String> {
+    match (command, by_option) {
+        (_, None) => Ok(None),
+        (Command::Check, Some(text)) => number(&text).map(Some).map_err(|sentence| format!("--limit: {sentence}")),
+        (Command::Antiscenarios | Command::Search | Command::Explain, Some(_)) => Err("--limit is for check".to_string()),
+    }
+}
+
 fn settled(command: Command, sorted: Sorted) -> Result<Asked, String> {
     let form = form_of(command, &sorted)?;
+    let limit = limit_of(command, sorted.limit)?;
     let mut names = sorted.names.into_iter();
     let Some(sheet) = names.next() else {
         return Err("a sheet is missing".to_string());
@@ -213,6 +227,7 @@ fn settled(command: Command, sorted: Sorted) -> Result<Asked, String> {
         form,
         events: sorted.events.map(|name| Name::new(&name)),
         numbers,
+        limit,
         sheet: Name::new(&sheet),
         logs: rest.iter().map(|name| Name::new(name)).collect(),
     };

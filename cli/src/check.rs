@@ -2,6 +2,7 @@
 use crate::arguments::{Asked, Command, Form};
 use crate::input::{read, Input};
 use crate::json::{array, Object};
+use crate::limit::{all_looked_at, looked_in_columns, looked_in_object, so_far, up_to_this, HOW_TO_GO_ON};
 use crate::log::{is_in, Log};
 use crate::logs::{Listed, Logs};
 use crate::names::Name;
@@ -16,13 +17,18 @@ use crate::reply::{Reply, Reporter, Standing, Tally};
 use crate::sheet::{Kind, Row};
 use crate::violation::{rows_in_object, violation, Violation};
 use crate::words::{file_line, line};
-use satskhubo_interface::answer::{check, Answer, Failure, Refusal, Verdict};
+use satskhubo_interface::answer::{check, check_limited, Answer, Failure, LimitedVerdict, Looked, Refusal, Verdict};
+
+/// The verdict in columns: document 01's, and one more for a check that stopped.
+const HELD: u32 = 0;
+const VIOLATED: u32 = 1;
+const STOPPED: u32 = 2;
 
 pub fn run(asked: &Asked, output: &mut Output) -> i32 {
     let Some(opened) = open(asked, output) else { return FAILED };
     say_remarks(&opened);
     let logs = Logs::of(&asked.logs, &opened.left_out());
-    let task = Task { opened, form: asked.form, is_one: logs.is_one() };
+    let task = Task { opened, form: asked.form, is_one: logs.is_one(), limit: asked.limit };
     let progress = Progress::new(logs.listed.len() as u64, "logs");
     let mut reporter = Reporter { output, progress: &progress, tally: Tally::default() };
     let work = |index: u64| {
@@ -34,7 +40,7 @@ pub fn run(asked: &Asked, output: &mut Output) -> i32 {
     let Reporter { tally, .. } = reporter;
     progress.end();
     if asked.form == Form::Words && !task.is_one {
-        output.say(&logs.counted(&summary(&tally)));
+        output.say(&logs.counted(&summary(&tally, asked.limit)));
     }
     tally.status(logs.listed.len())
 }
@@ -48,15 +54,25 @@ fn say_remarks(opened: &Opened) {
     }
 }
 
-fn summary(tally: &Tally) -> String {
-    let Tally { clear, found, refused, not_read, .. } = tally;
-    format!("{clear} hold, {found} violated, {refused} refused, {not_read} not read{}", tally.failures())
+/// Without a limit no check stops.
+fn summary(tally: &Tally, limit: Option<u64>) -> String {
+    let Tally { clear, found, stopped, refused, not_read, .. } = tally;
+    let stopped = limit.map_or(String::new(), |_| format!(", {stopped} stopped"));
+    format!("{clear} hold, {found} violated{stopped}, {refused} refused, {not_read} not read{}", tally.failures())
 }
 
 struct Task {
     opened: Opened,
     form: Form,
     is_one: bool,
+    limit: Option<u64>,
+}
+
+/// What a check found where the sheet is violated, and with a limit how far it has come.
+struct Findings {
+    placement: Vec<u32>,
+    rows: Vec<u32>,
+    looked: Option<Looked>,
 }
 
 impl Task {
@@ -69,35 +85,73 @@ impl Task {
             Ok(log) => log,
             Err(sentence) => return unreadable(&self.opened, self.form, name, sentence),
         };
-        let reply = check(&self.opened.input.bytes, &log.bytes).and_then(|verdict| self.answer(&log, verdict));
-        reply.unwrap_or_else(|failure| failed(&self.opened, self.form, name, failure))
+        self.answer(&log).unwrap_or_else(|failure| failed(&self.opened, self.form, name, failure))
     }
 
-    fn answer(&self, log: &Input, verdict: Verdict) -> Answer<Reply> {
+    fn answer(&self, log: &Input) -> Answer<Reply> {
+        let sheet = &self.opened.input.bytes;
+        match self.limit {
+            None => self.without_limit(log, check(sheet, &log.bytes)?),
+            Some(limit) => self.with_limit(log, check_limited(sheet, &log.bytes, limit)?),
+        }
+    }
+
+    fn without_limit(&self, log: &Input, verdict: Verdict) -> Answer<Reply> {
         match verdict {
-            Verdict::Holds => self.holds(log),
-            Verdict::Violated { placement, rows } => self.violated(log, &placement, &rows),
+            Verdict::Holds => self.holds(log, None),
+            Verdict::Violated { placement, rows } => self.violated(log, &Findings { placement, rows, looked: None }),
             Verdict::Refused(refusal) => refused(&self.opened, Command::Check, self.form, self.is_one, log, refusal),
         }
     }
 
-    fn holds(&self, input: &Input) -> Answer<Reply> {
-        let (name, sheet) = (input.name.words(), self.opened.input.name.words());
-        let text = match self.form {
-            Form::Plain => format!("{:>3}{:>3}\n", 0, 0),
-            Form::Words if self.is_one => {
-                format!("holds: {name} keeps the rule of {sheet}{}\n", self.events_in_words(&Log::of(&input.bytes)?))
+    fn with_limit(&self, log: &Input, verdict: LimitedVerdict) -> Answer<Reply> {
+        match verdict {
+            LimitedVerdict::Holds(looked) => self.holds(log, Some(looked)),
+            LimitedVerdict::Violated { placement, rows, looked } => {
+                self.violated(log, &Findings { placement, rows, looked: Some(looked) })
             }
-            Form::Words => format!("{name}: holds{}\n", self.events_in_words(&Log::of(&input.bytes)?)),
-            Form::Json => self.holds_object(&input.name, &Log::of(&input.bytes)?),
+            LimitedVerdict::Stopped(looked) => Ok(self.stopped(&log.name, looked)),
+            LimitedVerdict::Refused(refusal) => refused(&self.opened, Command::Check, self.form, self.is_one, log, refusal),
+        }
+    }
+
+    /// Neither holds nor violated.
+    fn stopped(&self, name: &Name, looked: Looked) -> Reply {
+        let (log, sheet, points) = (name.words(), self.opened.input.name.words(), self.points().count());
+        let text = match self.form {
+            Form::Plain => first_line(STOPPED, Some(looked)),
+            Form::Words if self.is_one => {
+                let so_far = so_far(looked, &format!("the antecedent of {sheet}"), points);
+                format!("stopped: {log} {so_far}\n  {HOW_TO_GO_ON}\n")
+            }
+            Form::Words => format!("{log}: stopped {}\n", so_far(looked, "the antecedent", points)),
+            Form::Json => looked_in_object(no_facts(self.base(name, "stopped")), Some(looked)).end() + "\n",
+        };
+        Reply::new(Standing::Stopped(looked), text)
+    }
+
+    fn holds(&self, input: &Input, looked: Option<Looked>) -> Answer<Reply> {
+        let (name, sheet) = (input.name.words(), self.opened.input.name.words());
+        let facts = |log: &Log| self.events_in_words(log) + &all_looked_at(looked);
+        let text = match self.form {
+            Form::Plain => first_line(HELD, looked),
+            Form::Words if self.is_one => {
+                format!("holds: {name} keeps the rule of {sheet}{}\n", facts(&Log::of(&input.bytes)?))
+            }
+            Form::Words => format!("{name}: holds{}\n", facts(&Log::of(&input.bytes)?)),
+            Form::Json => self.holds_object(&input.name, &Log::of(&input.bytes)?, looked),
         };
         Ok(Reply::new(Standing::Clear, text))
     }
 
-    /// The rows of the antecedent's points, each with the number of lines that have its events.
+    /// The rows of the antecedent's points.
+    fn points(&self) -> impl Iterator<Item = &Row> {
+        self.opened.sheet.section(0).filter(|row| row.kind == Kind::Point)
+    }
+
+    /// Each with the number of lines that have its events.
     fn antecedent<'a>(&'a self, log: &'a Log) -> impl Iterator<Item = (&'a Row, usize)> {
-        let points = self.opened.sheet.section(0).filter(|row| row.kind == Kind::Point);
-        points.map(|row| (row, log.lines.iter().filter(|line| is_in(line.event, row.set())).count()))
+        self.points().map(|row| (row, log.lines.iter().filter(|line| is_in(line.event, row.set())).count()))
     }
 
     /// On how many lines the antecedent's events stand, so that a sheet that holds on nothing is seen.
@@ -118,19 +172,20 @@ impl Task {
         named(Some(name), &self.opened.input.name).text("verdict", verdict).raw("refusal", "null")
     }
 
-    fn holds_object(&self, name: &Name, log: &Log) -> String {
+    fn holds_object(&self, name: &Name, log: &Log, looked: Option<Looked>) -> String {
         let point = |(row, lines): (&Row, usize)| {
             let object = Object::new().number("point", row.p).number("set", row.set()).number("a", row.a).number("b", row.b);
             object.number("lines", lines).end()
         };
-        no_facts(self.base(name, "holds")).raw("antecedent", &array(self.antecedent(log).map(point))).end() + "\n"
+        let object = no_facts(self.base(name, "holds")).raw("antecedent", &array(self.antecedent(log).map(point)));
+        looked_in_object(object, looked).end() + "\n"
     }
 
-    fn violated(&self, input: &Input, placement: &[u32], rows: &[u32]) -> Answer<Reply> {
+    fn violated(&self, input: &Input, findings: &Findings) -> Answer<Reply> {
         let (text, uncertified) = match self.form {
-            Form::Plain => (plain(placement, rows), None),
-            Form::Words if !self.is_one => (violated_line(&input.name, placement), None),
-            Form::Words | Form::Json => self.violated_whole(input, placement, rows)?,
+            Form::Plain => (findings.plain(), None),
+            Form::Words if !self.is_one => (findings.line(&input.name), None),
+            Form::Words | Form::Json => self.violated_whole(input, findings)?,
         };
         let mut reply = Reply::new(Standing::Found, text);
         if let Some(sentence) = uncertified {
@@ -140,24 +195,28 @@ impl Task {
         Ok(reply)
     }
 
-    fn violated_whole(&self, input: &Input, placement: &[u32], rows: &[u32]) -> Answer<(String, Option<String>)> {
+    fn violated_whole(&self, input: &Input, findings: &Findings) -> Answer<(String, Option<String>)> {
+        let Findings { placement, rows, looked } = findings;
         let log = Log::of(&input.bytes)?;
         let violation = violation(&self.opened, &input.bytes, &log, placement, rows)?;
         let text = match self.form {
             Form::Json => {
                 let object = in_object(self.base(&input.name, "violated"), &placed(&log, placement)?);
-                rows_in_object(object, &violation.rows).end() + "\n"
+                looked_in_object(rows_in_object(object, &violation.rows), *looked).end() + "\n"
             }
-            Form::Words | Form::Plain => self.violated_words(input, &log, placement, &violation)?,
+            Form::Words | Form::Plain => self.violated_words(input, &log, findings, &violation)?,
         };
         Ok((text, violation.uncertified.map(|failure| failure.to_string())))
     }
 
-    fn violated_words(&self, input: &Input, log: &Log, placement: &[u32], violation: &Violation) -> Answer<String> {
+    fn violated_words(&self, input: &Input, log: &Log, findings: &Findings, violation: &Violation) -> Answer<String> {
         let Opened { input: sheet, events, .. } = &self.opened;
         let mut text = format!("violated: {} breaks the rule of {}\n", input.name.words(), sheet.name.words());
-        for (point, placed) in (1..).zip(placed(log, placement)?) {
+        for (point, placed) in (1..).zip(placed(log, &findings.placement)?) {
             text.push_str(&format!("  point {point} is at {}\n", placed.words(events)));
+        }
+        if let Some(looked) = findings.how_far() {
+            text.push_str(&format!("  {looked}\n"));
         }
         if violation.rows.is_empty() {
             text.push_str("  the sheet has no consequent that could be met\n");
@@ -167,17 +226,30 @@ impl Task {
     }
 }
 
-/// Document 01's columns.
-fn plain(placement: &[u32], rows: &[u32]) -> String {
-    let positions: String = placement.iter().map(|position| format!("{position:>5}")).collect();
-    let rows: String = rows.iter().map(|row| format!("{row:>4}")).collect();
-    format!("{:>3}{:>3}\n{positions}\n{rows}\n", 0, 1)
+impl Findings {
+    /// Document 01's columns.
+    fn plain(&self) -> String {
+        let positions: String = self.placement.iter().map(|position| format!("{position:>5}")).collect();
+        let rows: String = self.rows.iter().map(|row| format!("{row:>4}")).collect();
+        format!("{}{positions}\n{rows}\n", first_line(VIOLATED, self.looked))
+    }
+
+    /// One of several logs.
+    fn line(&self, name: &Name) -> String {
+        let lines: Vec<String> = self.placement.iter().map(|&position| line(position)).collect();
+        let place = if lines.is_empty() { String::new() } else { format!(" at {}", lines.join("; ")) };
+        let looked = self.how_far().map_or(String::new(), |looked| format!("; {looked}"));
+        format!("{}: violated{place}{looked}\n", name.words())
+    }
+
+    fn how_far(&self) -> Option<String> {
+        self.looked.map(|looked| up_to_this(looked, self.placement.len()))
+    }
 }
 
-fn violated_line(name: &Name, placement: &[u32]) -> String {
-    let lines: Vec<String> = placement.iter().map(|&position| line(position)).collect();
-    let place = if lines.is_empty() { String::new() } else { format!(" at {}", lines.join("; ")) };
-    format!("{}: violated{place}\n", name.words())
+/// Refusal and verdict, and with a limit how far the check has come, in columns.
+fn first_line(verdict: u32, looked: Option<Looked>) -> String {
+    format!("{:>3}{verdict:>3}{}\n", 0, looked_in_columns(looked))
 }
 
 /// A log that is refused, in check and in search.

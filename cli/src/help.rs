@@ -4,7 +4,7 @@ use crate::arguments::Command;
 pub const HELP: &str = "\
 satskhubo: does a run log keep the rule of a sheet? The answers come from the proved library.
 
-    satskhubo check SHEET LOG..                  a verdict on each log
+    satskhubo check SHEET LOG.. [--limit L]      a verdict on each log
     satskhubo antiscenarios SHEET [NUMBER]       the patterns of every way to break the rule, or one of them
     satskhubo search SHEET LOG.. [--number M]    where they are found, or where one of them is
     satskhubo explain SHEET                      the sheet, row by row, in words
@@ -17,12 +17,14 @@ Options stand behind the command:
     --json           JSON, one object a line
     --events FILE    names of events 0 to 63, a line each: 3 scan (else the file `events` beside the sheet, if there is one)
     --number M       of the antiscenario; FIRST-LAST for some of them
+    --limit L        the check looks at L matchings of the antecedent, at most, and says that it stopped if there are more
     --               ends the options, for names that begin with a dash
-Exit status: 0 all hold, or nothing is found; 1 some are violated, or found; 2 something is refused, not read or failed.
+Exit status: 0 all hold, or nothing is found; 1 some are violated, or found; 2 something is refused, not read or failed;
+3 a check stopped at its limit.
 ";
 
 const CHECK: &str = "\
-satskhubo check SHEET LOG.. [--plain | --json] [--events FILE]
+satskhubo check SHEET LOG.. [--limit L] [--plain | --json] [--events FILE]
 
 One log: the verdict with the lines of the antecedent's points, and for each consequent the row that cannot be met,
 what it asks and what was found. Several logs, or a folder: a line each and a summary.
@@ -31,7 +33,13 @@ what it asks and what was found. Several logs, or a folder: a line each and a su
 rows (consequent, row, kind, asked, found); of a log that holds, antecedent (point, set, a, b, lines), where the set is
 a + 2^32 b; of, line and words of a refusal; error.
 A row with limits that no two ticks keep, since the clock drops fractions, is remarked on once, on standard error.
-Exit status: 0 all hold; 1 some are violated; 2 something is refused, not read or failed.
+--limit L, 0 to 18,446,744,073,709,551,615: the matchings of the antecedent are looked at from the smallest on, and no more than L
+of them. If none of these breaks the rule and there is one more, the answer is stopped, which is neither holds nor violated.
+The answer also says how many were looked at and, unless the log holds, how many placements of the antecedent's points, matchings
+or not, come after the last of them (all, if there was none). --plain has 2 for stopped, and both numbers behind every verdict
+(16 columns each); --json has the verdict stopped, and both behind the rest: looked, after.
+Exit status: 0 all hold; 1 some are violated; 2 something is refused, not read or failed; 3 some are stopped. 2 goes before 3,
+and 3 before 1.
 ";
 
 const ANTISCENARIOS: &str = "\

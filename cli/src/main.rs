@@ -12,6 +12,7 @@ mod found;
 mod help;
 mod input;
 mod json;
+mod limit;
 mod log;
 mod logs;
 mod names;

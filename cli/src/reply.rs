@@ -2,6 +2,10 @@
 use crate::order::Taker;
 use crate::output::{complain, Output, FAILED};
 use crate::progress::Progress;
+use satskhubo_interface::answer::Looked;
+
+/// The exit status where a check stopped.
+const STOPPED: i32 = 3;
 
 #[derive(Clone, Copy, PartialEq, Eq)]
 pub enum Standing {
@@ -9,6 +13,8 @@ pub enum Standing {
     Clear,
     /// The sheet is violated, or something was found.
     Found,
+    /// The check stopped at its limit. How far it has come is known to it alone, so that no search can say this.
+    Stopped(Looked),
     Refused,
     NotRead,
     Failed,
@@ -38,6 +44,7 @@ impl Reply {
 pub struct Tally {
     pub clear: usize,
     pub found: usize,
+    pub stopped: usize,
     pub refused: usize,
     pub not_read: usize,
     pub failed: usize,
@@ -49,6 +56,7 @@ impl Tally {
         match reply.standing {
             Standing::Clear => self.clear += 1,
             Standing::Found => self.found += 1,
+            Standing::Stopped(_) => self.stopped += 1,
             Standing::Refused => self.refused += 1,
             Standing::NotRead => self.not_read += 1,
             Standing::Failed => self.failed += 1,
@@ -56,10 +64,13 @@ impl Tally {
         self.incomplete += usize::from(reply.is_incomplete);
     }
 
-    /// The exit status for so many logs: what went wrong, or was never answered, comes before what was found.
+    /// The exit status for so many logs: what went wrong comes before what was never answered, and this before what was found.
     pub fn status(&self, logs: usize) -> i32 {
-        if self.clear + self.found != logs || self.incomplete > 0 {
+        if self.clear + self.found + self.stopped != logs || self.incomplete > 0 {
             return FAILED;
+        }
+        if self.stopped > 0 {
+            return STOPPED;
         }
         i32::from(self.found > 0)
     }

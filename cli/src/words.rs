@@ -44,3 +44,26 @@ pub fn count(count: impl Into<u64>, noun: &str) -> String {
         count => format!("{count} {noun}s"),
     }
 }
+
+/// A number whose digits stand in threes, with commas between them.
+pub fn grouped(number: u64) -> String {
+    let digits = number.to_string();
+    let groups: Vec<&[u8]> = digits.as_bytes().rchunks(3).rev().collect();
+    String::from_utf8_lossy(&groups.join(&b',')).into_owned()
+}
+
+#[cfg(test)]
+mod tests {
+    use super::grouped;
+
+    #[test]
+    fn digits_in_threes() {
+        let numbers = [(0, "0"), (7, "7"), (999, "999"), (1000, "1,000"), (12_345, "12,345"), (123_456, "123,456")];
+        for (number, due) in numbers {
+            assert_eq!(grouped(number), due);
+        }
+        assert_eq!(grouped(1_000_007), "1,000,007");
+        assert_eq!(grouped(256_000_000_000_000), "256,000,000,000,000");
+        assert_eq!(grouped(u64::MAX), "18,446,744,073,709,551,615");
+    }
+}

@@ -1,4 +1,5 @@
-/* A host on site: checks a log against a sheet, says what it found, and searches for each way to break the rule. */
+/* A host on site: checks a log against a sheet, with a limit or without, says what it found, and searches for each way to break the rule. */
+#include <errno.h>
 #include <stdio.h>
 #include <stdlib.h>
 
@@ -74,16 +75,38 @@ static uint32_t search_all(const uint8_t *sheet, size_t sheet_len, const uint8_t
     return answer;
 }
 
+static void print_numbers(const uint32_t *numbers, uint32_t count) {
+    for (uint32_t i = 0; i < count; i++)
+        printf(" %u", numbers[i]);
+}
+
+/* Decimal digits, and no more than 64 bits hold. */
+static bool read_limit(const char *text, uint64_t *limit) {
+    char *end = NULL;
+    errno = 0;
+    *limit = strtoull(text, &end, 10);
+    return text[0] >= '0' && text[0] <= '9' && *end == '\0' && errno == 0;
+}
+
 int main(int argc, char **argv) {
     static uint8_t sheet[SHEET_ROOM], log[LOG_ROOM];
     uint32_t positions[4], rows[6], points = 0, consequents = 0;
-    if (argc != 3) {
-        fprintf(stderr, "usage: %s SHEET LOG\n", argv[0]);
+    uint64_t limit = 0, looked = 0, after = 0;
+    if (argc != 3 && (argc != 4 || !read_limit(argv[3], &limit))) {
+        fprintf(stderr, "usage: %s SHEET LOG [LIMIT]\n", argv[0]);
         return 2;
     }
     size_t sheet_len = load(argv[1], sheet, sizeof sheet);
     size_t log_len = load(argv[2], log, sizeof log);
-    uint32_t answer = satskhubo_check(sheet, sheet_len, log, log_len, positions, &points, rows, &consequents);
+    uint32_t answer = argc == 3 ? satskhubo_check(sheet, sheet_len, log, log_len, positions, &points, rows, &consequents)
+                                : satskhubo_check_limited(sheet, sheet_len, log, log_len, limit, positions, &points, rows,
+                                                          &consequents, &looked, &after);
+    /* Stopped is neither holds nor violated. */
+    if (answer == 102) {
+        printf("stopped: matchings looked at %llu, ", (unsigned long long)looked);
+        printf("placements after them %llu\n", (unsigned long long)after);
+        return 3;
+    }
     if (answer != check(sheet, sheet_len, log, log_len))
         return 2;
     if (answer == 0) {
@@ -93,11 +116,9 @@ int main(int argc, char **argv) {
     if (answer != 100)
         return refused(answer, sheet, sheet_len, log, log_len);
     printf("violated at");
-    for (uint32_t i = 0; i < points; i++)
-        printf(" %u", positions[i]);
+    print_numbers(positions, points);
     printf(", rows at fault");
-    for (uint32_t i = 0; i < consequents; i++)
-        printf(" %u", rows[i]);
+    print_numbers(rows, consequents);
     printf("\n");
     answer = search_all(sheet, sheet_len, log, log_len);
     return answer == 0 ? 1 : refused(answer, sheet, sheet_len, log, log_len);

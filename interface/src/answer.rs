@@ -6,6 +6,7 @@ use std::ops::Range;
 const DONE: u32 = 0;
 const MALFORMED: u32 = 1;
 const VIOLATED: u32 = 100;
+const STOPPED: u32 = 102;
 
 /// Document 01's refusals, without 11, which document 02, A4, takes back.
 #[derive(Clone, Copy, Debug, PartialEq, Eq)]
@@ -88,6 +89,29 @@ pub enum Verdict {
     Refused(Refusal),
 }
 
+/// Document 02, A10: what the check with a limit answers.
+#[derive(Clone, Debug, PartialEq, Eq)]
+pub enum LimitedVerdict {
+    Holds(Looked),
+    Violated {
+        placement: Vec<u32>,
+        rows: Vec<u32>,
+        looked: Looked,
+    },
+    /// As many matchings as the limit were looked at, all of them extend, and there is one more: neither holds nor violated.
+    Stopped(Looked),
+    Refused(Refusal),
+}
+
+/// How far the check with a limit has come.
+#[derive(Clone, Copy, Debug, PartialEq, Eq)]
+pub struct Looked {
+    /// How many of the antecedent's matchings were looked at.
+    pub matchings: u64,
+    /// How many placements of the antecedent's points, met or not, come after the last of them; all, where none was looked at.
+    pub placements_after: u64,
+}
+
 #[derive(Clone, Debug, PartialEq, Eq)]
 pub enum SheetRead {
     /// Document 01: N, the number of antiscenarios.
@@ -166,6 +190,32 @@ pub fn check(sheet: &[u8], log: &[u8]) -> Answer<Verdict> {
             Ok(Verdict::Violated { placement, rows })
         }
         number => Ok(Verdict::Refused(refusal(CALL, number)?)),
+    }
+}
+
+pub fn check_limited(sheet: &[u8], log: &[u8], limit: u64) -> Answer<LimitedVerdict> {
+    const CALL: &str = "satskhubo_check_limited";
+    let (mut positions, mut rows) = ([0; MOST_ANTECEDENT_POINTS], [0; MOST_CONSEQUENTS]);
+    let (mut points, mut consequents) = (u32::MAX, u32::MAX);
+    let (mut matchings, mut placements_after) = (u64::MAX, u64::MAX);
+    let lent = lent::Limited {
+        positions: &mut positions,
+        points: &mut points,
+        rows: &mut rows,
+        consequents: &mut consequents,
+        looked: &mut matchings,
+        after: &mut placements_after,
+    };
+    let number = lent::check_limited(sheet, log, limit, lent);
+    let looked = Looked { matchings, placements_after };
+    match number {
+        DONE => Ok(LimitedVerdict::Holds(looked)),
+        VIOLATED => {
+            let (placement, rows) = (front(CALL, &positions, points)?, front(CALL, &rows, consequents)?);
+            Ok(LimitedVerdict::Violated { placement, rows, looked })
+        }
+        STOPPED => Ok(LimitedVerdict::Stopped(looked)),
+        number => Ok(LimitedVerdict::Refused(refusal(CALL, number)?)),
     }
 }
 

@@ -41,6 +41,23 @@ pub fn check(
     unsafe { satskhubo_check(sheet.as_ptr(), sheet.len(), log.as_ptr(), log.len(), positions, points, rows, consequents) }
 }
 
+/// What is lent to the check with a limit.
+pub struct Limited<'a> {
+    pub positions: &'a mut [u32; MOST_ANTECEDENT_POINTS],
+    pub points: &'a mut u32,
+    pub rows: &'a mut [u32; MOST_CONSEQUENTS],
+    pub consequents: &'a mut u32,
+    pub looked: &'a mut u64,
+    pub after: &'a mut u64,
+}
+
+pub fn check_limited(sheet: &[u8], log: &[u8], limit: u64, lent: Limited) -> u32 {
+    let Limited { positions, points, rows, consequents, looked, after } = lent;
+    let (positions, rows) = (positions.as_mut_ptr(), rows.as_mut_ptr());
+    let (text, length, lines, size) = (sheet.as_ptr(), sheet.len(), log.as_ptr(), log.len());
+    unsafe { satskhubo_check_limited(text, length, lines, size, limit, positions, points, rows, consequents, looked, after) }
+}
+
 pub fn show(sheet: &[u8], log: &[u8], of_log: &mut u8, offset: &mut usize, length: &mut usize) -> u32 {
     let of_log = (of_log as *mut u8).cast::<bool>();
     unsafe { satskhubo_show(sheet.as_ptr(), sheet.len(), log.as_ptr(), log.len(), of_log, offset, length) }

@@ -61,6 +61,19 @@ extern "C" {
         rows: *mut u32,
         consequents: *mut u32,
     ) -> u32;
+    fn satskhubo_check_limited(
+        sheet: *const u8,
+        sheet_len: usize,
+        log: *const u8,
+        log_len: usize,
+        limit: u64,
+        positions: *mut u32,
+        points: *mut u32,
+        rows: *mut u32,
+        consequents: *mut u32,
+        looked: *mut u64,
+        after: *mut u64,
+    ) -> u32;
     fn satskhubo_show(
         sheet: *const u8,
         sheet_len: usize,

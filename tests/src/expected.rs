@@ -1,9 +1,13 @@
 //! The outcomes that the reference expects, lent memory included, and the reference with a blunder as a side of its own.
 use crate::outcome::*;
 use crate::reference::blunder::Blunder;
+use crate::reference::limited::Limited;
 use crate::reference::operations::{open, Opened, Verdict};
 
+pub const HOLDS: u32 = 0;
 pub const VIOLATED: u32 = 100;
+/// Document 02, A10.
+pub const STOPPED: u32 = 102;
 
 impl Opened {
     pub fn log_read(&self) -> LogRead {
@@ -46,6 +50,10 @@ impl Opened {
         checked(self.check().map_err(|refusal| refusal.number()))
     }
 
+    pub fn limited_check(&self, limit: u64) -> LimitedCheck {
+        limited_check(self.check_limited(limit).map_err(|refusal| refusal.number()))
+    }
+
     pub fn shown(&self) -> Shown {
         let (answer, part) = self.show();
         Shown { answer, of_log: part.of_log.into(), offset: part.offset, length: part.length }
@@ -68,7 +76,7 @@ pub fn checked(result: Result<Verdict, u32>) -> Checked {
     let mut positions = guarded(4, PATTERN_WORD);
     let mut rows_lent = guarded(6, PATTERN_WORD);
     let (answer, points, consequents) = match result {
-        Ok(Verdict::Holds) => (0, PATTERN_WORD, PATTERN_WORD),
+        Ok(Verdict::Holds) => (HOLDS, PATTERN_WORD, PATTERN_WORD),
         Err(refusal) => (refusal, PATTERN_WORD, PATTERN_WORD),
         Ok(Verdict::Violated { placement, rows }) => {
             positions[GUARD..GUARD + placement.len()].copy_from_slice(&placement);
@@ -77,6 +85,14 @@ pub fn checked(result: Result<Verdict, u32>) -> Checked {
         }
     };
     Checked { answer, positions, points, rows: rows_lent, consequents }
+}
+
+/// Stopped, nothing is written of what the check writes.
+pub fn limited_check(result: Result<Limited, u32>) -> LimitedCheck {
+    match result {
+        Ok(Limited { verdict, looked, after }) => LimitedCheck { checked: checked(verdict.ok_or(STOPPED)), looked, after },
+        Err(refusal) => LimitedCheck { checked: checked(Err(refusal)), looked: PATTERN_COUNT, after: PATTERN_COUNT },
+    }
 }
 
 /// The reference with a blunder put in, as a side to be found out.
@@ -103,6 +119,9 @@ impl Side for Blundering {
     }
     fn check(&self, sheet: &[u8], log: &[u8]) -> Checked {
         open(sheet, log, self.0).checked()
+    }
+    fn check_limited(&self, sheet: &[u8], log: &[u8], limit: u64) -> LimitedCheck {
+        open(sheet, log, self.0).limited_check(limit)
     }
     fn show(&self, sheet: &[u8], log: &[u8]) -> Shown {
         open(sheet, log, self.0).shown()

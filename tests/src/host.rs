@@ -1,6 +1,7 @@
 //! The C interface as the bench host calls it, behind wrappers that lend patterned memory and give all of it back.
 use crate::outcome::*;
-use satskhubo_interface::{lent, Placement, MOST_ANTECEDENT_POINTS, MOST_CONSEQUENTS, MOST_LINE};
+use satskhubo_interface::lent::{self, Limited};
+use satskhubo_interface::{Placement, MOST_ANTECEDENT_POINTS, MOST_CONSEQUENTS, MOST_LINE};
 
 /// The proved code, called as the bench host calls it.
 pub struct Host;
@@ -61,6 +62,23 @@ impl Side for Host {
         let (front, rows_front) = (lent_array(&mut positions), lent_array(&mut rows));
         let answer = lent::check(sheet, log, front, &mut points, rows_front, &mut consequents);
         Checked { answer, positions, points, rows, consequents }
+    }
+
+    fn check_limited(&self, sheet: &[u8], log: &[u8], limit: u64) -> LimitedCheck {
+        let mut positions = guarded(MOST_ANTECEDENT_POINTS, PATTERN_WORD);
+        let mut rows = guarded(MOST_CONSEQUENTS, PATTERN_WORD);
+        let (mut points, mut consequents) = (PATTERN_WORD, PATTERN_WORD);
+        let (mut looked, mut after) = (PATTERN_COUNT, PATTERN_COUNT);
+        let lent = Limited {
+            positions: lent_array(&mut positions),
+            points: &mut points,
+            rows: lent_array(&mut rows),
+            consequents: &mut consequents,
+            looked: &mut looked,
+            after: &mut after,
+        };
+        let answer = lent::check_limited(sheet, log, limit, lent);
+        LimitedCheck { checked: Checked { answer, positions, points, rows, consequents }, looked, after }
     }
 
     fn show(&self, sheet: &[u8], log: &[u8]) -> Shown {

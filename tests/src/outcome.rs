@@ -68,6 +68,14 @@ pub struct Checked {
     pub consequents: u32,
 }
 
+/// Document 02, A10: what is lent to the check, and two numbers more.
+#[derive(Debug, PartialEq, Eq)]
+pub struct LimitedCheck {
+    pub checked: Checked,
+    pub looked: u64,
+    pub after: u64,
+}
+
 #[derive(Debug, PartialEq, Eq)]
 pub struct Shown {
     pub answer: u32,
@@ -120,6 +128,7 @@ pub trait Side {
     fn write(&self, sheet: &[u8], number: u64, room: usize) -> Written;
     fn search(&self, sheet: &[u8], log: &[u8], number: u64, places: usize) -> Searched;
     fn check(&self, sheet: &[u8], log: &[u8]) -> Checked;
+    fn check_limited(&self, sheet: &[u8], log: &[u8], limit: u64) -> LimitedCheck;
     fn show(&self, sheet: &[u8], log: &[u8]) -> Shown;
     /// The line itself: what `show` names, unless the side hands it out too.
     fn line(&self, sheet: &[u8], log: &[u8]) -> LineShown {

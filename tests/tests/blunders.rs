@@ -7,10 +7,10 @@ use satskhubo_tests::generate::chains::{chain_logs, chains};
 use satskhubo_tests::generate::families::{self, Family};
 use satskhubo_tests::generate::logs::log_of;
 use satskhubo_tests::generate::pairs::{chained_pair_of, large_pair_of, pair_of};
-use satskhubo_tests::generate::sheets::sheet_s;
+use satskhubo_tests::generate::sheets::{sheet_of, sheet_s};
 use satskhubo_tests::generate::Pair;
 use satskhubo_tests::outcome::Table;
-use satskhubo_tests::reference::blunder::{Blunder, IN_FAR_ENDS};
+use satskhubo_tests::reference::blunder::{Blunder, IN_FAR_ENDS, IN_LIMITS};
 use satskhubo_tests::reference::log::Log;
 use satskhubo_tests::reference::operations::open;
 use satskhubo_tests::reference::sheet::{self, kind::*, Row, CLOSE, START};
@@ -71,6 +71,15 @@ fn in_texts_alone() -> impl Iterator<Item = Blunder> {
     IN_FAR_ENDS.into_iter().filter(|blunder| !IN_CHAINS.contains(blunder))
 }
 
+/// Document 02, A10: the slips that keep what is promised of any limit, so that only the numbers, one by one, show them.
+const IN_NUMBERS_ALONE: [Blunder; 5] = [
+    Blunder::StopsAtLimit,
+    Blunder::AfterOneTooMany,
+    Blunder::ReportedInAfter,
+    Blunder::HoldsWithNoneAfter,
+    Blunder::PassedOverUncounted,
+];
+
 fn break_demand_3(name: &str, breaks: impl Fn(&mut Comparison<Blundering>) -> bool) {
     for blunder in AGAINST_DEMAND_3.into_iter().chain(IN_HALVES).chain([Blunder::OutsideAsBefore]) {
         let broken = |seed: &u64| breaks(&mut Comparison::new(&Blundering(blunder), &pair_of(*seed), *seed));
@@ -114,6 +123,17 @@ fn demand_3_does_not_find_another_end() {
     }
 }
 
+/// Document 02, A10: from this side's answers alone, and the violating placements.
+#[test]
+fn the_promises_of_limits_find_them() {
+    for blunder in IN_LIMITS {
+        let breaks = |seed: &u64| Comparison::new(&Blundering(blunder), &pair_of(*seed), *seed).limits_alone().is_err();
+        let pairs = (0..MOST_PAIRS).find(breaks).map(|seed| seed + 1);
+        assert_eq!(pairs.is_none(), IN_NUMBERS_ALONE.contains(&blunder), "{blunder:?} breaks a promise at pair {pairs:?}");
+        writeln!(std::io::stderr(), "{blunder:?} breaks a promise at pair {pairs:?}").unwrap();
+    }
+}
+
 /// Every so-many-th pair of families that the gate compares whole is enough.
 fn are_found_in(families: Vec<Family>, logs: &[Log], blunders: impl Iterator<Item = Blunder>) {
     let sheets: Vec<Vec<u8>> = families.into_iter().flat_map(|family| family.sheets).collect();
@@ -127,7 +147,7 @@ fn are_found_in(families: Vec<Family>, logs: &[Log], blunders: impl Iterator<Ite
 
 #[test]
 fn the_small_family_finds_them() {
-    let blunders = AGAINST_DEMAND_3.into_iter().chain([Blunder::BringsEarlier]).chain(AT_LIMITS);
+    let blunders = AGAINST_DEMAND_3.into_iter().chain([Blunder::BringsEarlier]).chain(AT_LIMITS).chain(IN_LIMITS);
     are_found_in(families::small(), &families::logs(), blunders);
 }
 
@@ -415,6 +435,69 @@ fn losing_the_upper_half_in_the_short_denial() {
 fn staying_with_the_long_denial() {
     is_found(Blunder::BeforeA8);
     is_found_in_chains(Blunder::BeforeA8, &[(BEFORE, 1, 2)], &[(NEXT, 11, 1), (BEFORE, 11, 2)]);
+}
+
+/// Document 02, A10: the blunder is found among random pairs, and answers this limit otherwise on these events.
+fn is_found_with(blunder: Blunder, sheet: &[u8], events: &[u32], limit: u64) {
+    assert!(IN_LIMITS.contains(&blunder));
+    is_found(blunder);
+    let lines: Vec<(u32, u32)> = (1..).zip(events.iter().copied()).collect();
+    let log = log_of(&lines).text();
+    let limited = |blunder| open(sheet, &log, blunder).limited_check(limit);
+    assert_ne!(limited(blunder), limited(Blunder::None), "{blunder:?}");
+}
+
+/// A scan, and no consequent, or one that is empty: each scan is violating, or none is.
+fn scan(k: u32) -> Vec<u8> {
+    sheet_of(k, &[[0, POINT, 1, 0, 1 << 3, 0]])
+}
+
+/// It may itself be violating: stopped, none looked at, one after.
+#[test]
+fn the_one_more_taken_as_looked_at() {
+    for blunder in [Blunder::OneMoreCounted, Blunder::OneMoreInNumber, Blunder::AfterOneMore, Blunder::OneMoreLeftOut] {
+        is_found_with(blunder, &scan(0), &[3], 0);
+    }
+}
+
+#[test]
+fn stopping_too_late_or_too_soon() {
+    is_found_with(Blunder::HoldsAtLimit, &scan(0), &[3], 0);
+    is_found_with(Blunder::StopsAtLimit, &scan(1), &[3], 1);
+    is_found_with(Blunder::OneMoreLookedAt, &scan(0), &[3], 0);
+    is_found_with(Blunder::OneLessLookedAt, &scan(0), &[3], 1);
+}
+
+#[test]
+fn looking_on_behind_the_first_that_extends_nowhere() {
+    is_found_with(Blunder::LooksOn, &scan(0), &[3, 3], 2);
+}
+
+#[test]
+fn a_limit_of_0_or_of_more_than_32_bits() {
+    is_found_with(Blunder::ZeroIsNoLimit, &scan(1), &[3], 0);
+    is_found_with(Blunder::LimitIn32Bits, &scan(1), &[3, 3], (1 << 32) + 1);
+}
+
+#[test]
+fn placements_after_miscounted() {
+    is_found_with(Blunder::AfterOneTooFew, &scan(1), &[3, 2], 1);
+    is_found_with(Blunder::AfterOneTooMany, &scan(1), &[3, 2], 1);
+    is_found_with(Blunder::ReportedInAfter, &scan(0), &[3], 1);
+    is_found_with(Blunder::HoldsWithNoneAfter, &scan(1), &[3, 2], 1);
+}
+
+#[test]
+fn placements_after_none() {
+    is_found_with(Blunder::NoneAfterNone, &scan(1), &[2], 1);
+    is_found_with(Blunder::NoPointsNoPlacement, &sheet_of(0, &[]), &[3], 0);
+    is_found_with(Blunder::NoLinesNoPlacement, &sheet_of(0, &[]), &[], 0);
+}
+
+/// The check without a limit looks at the first alone: a consequent that speaks of no point extends with every other, too.
+#[test]
+fn matchings_passed_over_not_counted() {
+    is_found_with(Blunder::PassedOverUncounted, &scan(1), &[3, 3], 2);
 }
 
 /// On large sheets too, where demand 3 goes by placements.

@@ -1,6 +1,6 @@
 //! What the random pairs and their arguments reach: every kind in every section that permits it, limits at and next to distances, short denials,
-//! both verdicts, and every refusal; and what the families have.
-use satskhubo_tests::generate::arguments::{arguments_of, Arguments};
+//! both verdicts, every end of the check with a limit, and every refusal; and what the families have.
+use satskhubo_tests::generate::arguments::{arguments_of, limits_of, Arguments};
 use satskhubo_tests::generate::chains::chains;
 use satskhubo_tests::generate::families;
 use satskhubo_tests::generate::pairs::{
@@ -187,6 +187,50 @@ fn of_refusals(reached: &mut Reached, opened: &Opened, seed: u64) {
     count_refusal(reached, opened.write(number, room));
     count_refusal(reached, opened.search(number, places));
     count_refusal(reached, opened.judge(number, &table.positions, table.count));
+}
+
+/// Document 02, A10: how the check ends with each of the limits that the comparison tries, and how many it has looked at.
+fn of_ends(reached: &mut Reached, opened: &Opened, seed: u64) {
+    for limit in limits_of(seed, opened) {
+        let Ok(limited) = opened.check_limited(limit) else { return };
+        let end = match limited.verdict {
+            Some(Verdict::Holds) => ENDS[0],
+            Some(Verdict::Violated { .. }) => ENDS[1],
+            None => ENDS[2],
+        };
+        count(reached, format!("{end} after {}", LOOKED[limited.looked.min(2) as usize]));
+    }
+}
+
+const ENDS: [&str; 3] = ["holds", "violated", "stopped"];
+const LOOKED: [&str; 3] = ["none", "one", "several"];
+
+/// Violated, at least one was looked at.
+fn ends() -> Vec<String> {
+    let all = ENDS.iter().flat_map(|end| LOOKED.map(|looked| format!("{end} after {looked}")));
+    all.filter(|end| end != "violated after none").collect()
+}
+
+/// Each end so often at least.
+fn ends_are_reached(name: &str, pairs: u64, pair_of: fn(u64) -> Pair) {
+    let mut reached = Reached::new();
+    for seed in 0..pairs {
+        let pair = pair_of(seed);
+        of_ends(&mut reached, &open(&pair.sheet, &pair.log, Blunder::None), seed);
+    }
+    writeln!(std::io::stderr(), "of {pairs} {name}: {reached:?}").unwrap();
+    for end in ends() {
+        assert!(reached.get(&end).is_some_and(|&times| times >= OFTEN), "{name}: {end}: {:?}", reached.get(&end));
+    }
+}
+
+#[test]
+fn the_check_with_a_limit_ends_in_every_way() {
+    ends_are_reached("random pairs", 2000, pair_of);
+    ends_are_reached("large pairs", 500, large_pair_of);
+    ends_are_reached("chained pairs", 500, chained_pair_of);
+    ends_are_reached("rules", 500, rule_pair_of);
+    ends_are_reached("long pairs", 100, long_pair_of);
 }
 
 fn of_pair(reached: &mut Reached, seed: u64) {

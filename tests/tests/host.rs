@@ -53,6 +53,28 @@ fn says_what_it_finds() {
     assert_eq!((large.status.code(), said(&large).as_str()), (Some(1), due));
 }
 
+/// Document 02, A10: with a limit it may stop, and else says what it says without one.
+#[test]
+fn stops_at_its_limit() {
+    let program = host("limited-host");
+    let examples = top().join("examples/lockmass");
+    let limited = |log: &str, limit: &str| {
+        let names = [examples.join("sheet"), examples.join(log)];
+        let output = Command::new(&program).args(names).arg(limit).output().expect("the host runs");
+        (output.status.code(), said(&output))
+    };
+    let stopped = |looked, after| format!("stopped: matchings looked at {looked}, placements after them {after}\n");
+    assert_eq!(limited("log", "0"), (Some(3), stopped(0, 3)));
+    assert_eq!(limited("log", "1"), (Some(3), stopped(1, 1)));
+    let violated = run(&mut Command::new(&program), "lockmass/sheet", "lockmass/log");
+    assert_eq!(limited("log", "2"), (Some(1), said(&violated)));
+    assert_eq!(limited("log-kept", "1"), (Some(3), stopped(1, 1)));
+    assert_eq!(limited("log-kept", "18446744073709551615"), (Some(0), "holds\n".to_string()));
+    for limit in ["", "-1", "+1", " 1", "1 ", "one", "18446744073709551616"] {
+        assert_eq!(limited("log", limit), (Some(2), String::new()), "{limit}");
+    }
+}
+
 #[test]
 fn shows_the_line_that_is_refused() {
     let program = host("refusing-host");
@@ -74,7 +96,7 @@ fn keeps_to_its_memory() {
 fn the_header_serves_c_plus_plus() {
     let program = compiled("g++", "-std=c++11", "tests/host.cpp", "host-in-c++");
     let output = run(&mut Command::new(&program), "lockmass/sheet", "lockmass/log");
-    let due = "check 100\nread_log 0 3\nread_sheet 0 4\nsatskhubo_check 100 1 3 1 3\nwrite 0 112\nsearch 0 1 3 1\njudge 0 1\nshow 1 0 0 7\nwrite_field 0\nread_field 0 4294967295\n";
+    let due = "check 100\nread_log 0 3\nread_sheet 0 4\nsatskhubo_check 100 1 3 1 3\ncheck_limited 102 1 1\nwrite 0 112\nsearch 0 1 3 1\njudge 0 1\nshow 1 0 0 7\nwrite_field 0\nread_field 0 4294967295\n";
     assert_eq!((output.status.code(), said(&output).as_str()), (Some(0), due));
 }
 
@@ -85,13 +107,17 @@ fn is_content_with_the_stack_promised() {
     let folder = scratch("little-stack");
     std::fs::write(folder.join("sheet"), largest()).unwrap();
     std::fs::write(folder.join("log"), largest_log()).unwrap();
-    let limited = |sheet: &Path, log: &Path| {
+    let limited = |sheet: &Path, log: &Path, limit: &[&str]| {
         let mut shell = Command::new("sh");
-        shell.args(["-c", "ulimit -s 128 && exec \"$@\"", "sh"]).arg(&program).arg(sheet).arg(log).output().expect("sh runs")
+        shell.args(["-c", "ulimit -s 128 && exec \"$@\"", "sh"]).arg(&program).arg(sheet).arg(log).args(limit);
+        shell.output().expect("sh runs")
     };
     let examples = top().join("examples/lockmass");
-    assert_eq!(said(&limited(&examples.join("sheet"), &examples.join("log-kept"))), "holds\n");
-    let output = limited(&folder.join("sheet"), &folder.join("log"));
-    assert_eq!(output.status.code(), Some(1), "{output:?}");
-    assert!(said(&output).starts_with("violated at 3998 4000 3998 3998, rows at fault 41 50 59 68 77 86\n"), "{}", said(&output));
+    for limit in [&[][..], &["18446744073709551615"]] {
+        assert_eq!(said(&limited(&examples.join("sheet"), &examples.join("log-kept"), limit)), "holds\n");
+        let output = limited(&folder.join("sheet"), &folder.join("log"), limit);
+        assert_eq!(output.status.code(), Some(1), "{output:?}");
+        let text = said(&output);
+        assert!(text.starts_with("violated at 3998 4000 3998 3998, rows at fault 41 50 59 68 77 86\n"), "{text}");
+    }
 }

@@ -35,11 +35,13 @@ fn every_operation_on_the_stack_promised() {
     on_little_stack(|| Host.search(&sheet, &log, 64, 58));
     on_little_stack(|| Host.check_number(&sheet, &log));
     on_little_stack(|| Host.check(&sheet, &log));
+    on_little_stack(|| Host.check_limited(&sheet, &log, 0));
+    on_little_stack(|| Host.check_limited(&sheet, &log, u64::MAX));
     on_little_stack(|| Host.show(&sheet, &log));
     on_little_stack(|| Host.show(&sheet, &log[..log.len() - 1]));
     on_little_stack(|| Host.read_field(&log, 5));
     on_little_stack(|| Host.write_field(11, 0, 11, u32::MAX));
-    tell("threads: little stack", 12);
+    tell("threads: little stack", 14);
 }
 
 /// What every operation says of a pair.
@@ -51,6 +53,7 @@ fn answers(pair: &Pair) -> String {
         Host.show(sheet, log),
         Host.check_number(sheet, log),
         Host.check(sheet, log),
+        [0, 1, 2].map(|limit| Host.check_limited(sheet, log, limit)),
     );
     let numbered: Vec<_> = (0..4)
         .map(|number| {

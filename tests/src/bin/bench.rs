@@ -1,14 +1,14 @@
 //! The proved code through the C interface beside plain Rust, in one run, as ratios: bench [check | alone | counts | once ours|plain
 //! check|NUMBER|CASE|RULE | logs FOLDER].
-use satskhubo_tests::expected::VIOLATED;
+use satskhubo_tests::expected::{STOPPED, VIOLATED};
 use satskhubo_tests::generate::cases::{case_of, cases, Case};
 use satskhubo_tests::generate::logs::{log_of, mixed, uniform};
 use satskhubo_tests::generate::rules::{rule_of, rules, standing_measures, Rule};
 use satskhubo_tests::generate::sheets::{sheet_of, sheet_s};
 use satskhubo_tests::host::Host;
 use satskhubo_tests::outcome::Side;
-use satskhubo_tests::plain;
 use satskhubo_tests::plain::tried::Tried;
+use satskhubo_tests::plain::{self, Plain};
 use satskhubo_tests::reference::sheet::kind::*;
 use std::cell::RefCell;
 use std::hint::black_box;
@@ -23,6 +23,8 @@ const LONG: f64 = 0.5;
 const THREAD_TIME: i32 = 3;
 /// Up to so many positions tried are counted.
 const MOST_TRIED: u64 = 2_000_000_000;
+/// Whether this tree's archive is linked. Another may be older and lack what is new, which is then not called, and so not looked for.
+const OF_THIS_TREE: bool = option_env!("BENCH_ARCHIVE").is_none();
 
 #[repr(C)]
 struct Timespec {
@@ -241,6 +243,23 @@ fn check_standing_measures() {
     }
 }
 
+/// Document 02, A10: the second standing measure with a limit of one less than its n^2 matchings, each of which is looked at.
+fn check_with_limit() {
+    if !OF_THIS_TREE {
+        return;
+    }
+    let [_, Rule { sheet, log, .. }] = standing_measures();
+    let mut table = Table::new();
+    for n in SIZES {
+        let (log, limit) = (log(n).text(), u64::from(n).pow(2) - 1);
+        let (ours, plain) = (Host.check_limited(&sheet, &log, limit), Plain.check_limited(&sheet, &log, limit));
+        assert_eq!((&ours, ours.checked.answer), (&plain, STOPPED));
+        let check_ours = || keep(Host.check_limited(&sheet, black_box(&log), limit));
+        let check_plain = || keep(Plain.check_limited(&sheet, black_box(&log), limit));
+        table.line("check with a limit", n, both(check_ours, check_plain));
+    }
+}
+
 /// The check of each rule, and the searches that go with it.
 fn ordinary_rules() {
     for Rule { name, sheet, log, holds, searched, .. } in rules() {
@@ -348,7 +367,8 @@ fn main() {
     }
     Table::heading();
     if word == "check" {
-        return check_standing_measures();
+        check_standing_measures();
+        return check_with_limit();
     }
     read_logs();
     read_sheets();
@@ -362,5 +382,6 @@ fn main() {
     }
     check("check S", &sheet_s(), mixed_text, true);
     check_standing_measures();
+    check_with_limit();
     ordinary_rules();
 }

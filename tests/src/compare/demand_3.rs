@@ -5,7 +5,7 @@ use crate::outcome::{Side, GUARD};
 use crate::reference::antiscenario::antiscenario;
 use crate::reference::cut::CutDown;
 use crate::reference::log::Log;
-use crate::reference::operations::{violating, MOST_POINTS};
+use crate::reference::operations::MOST_POINTS;
 use crate::reference::rows::points;
 use crate::reference::sheet::Sheet;
 
@@ -17,7 +17,7 @@ impl<S: Side> Comparison<'_, S> {
         let (sheet, log) = (sheet.clone(), log.clone());
         let cut = self.cut_down(&sheet, &log)?;
         let (smallest, given) = (cut.first().cloned(), self.given());
-        self.same("demand 3: violating placements", cut, violating(&sheet, &log))?;
+        self.same("demand 3: violating placements", Ok(cut), self.opened.violating())?;
         self.same("demand 3: the check's placement", given, smallest)?;
         Ok(true)
     }

@@ -1,5 +1,6 @@
 //! Compares every operation of one side with the reference on one pair of a sheet and a log.
 mod demand_3;
+mod limits;
 mod tally;
 
 use crate::expected::searched;
@@ -194,6 +195,7 @@ impl<'a, S: Side> Comparison<'a, S> {
     pub fn every_operation(&mut self, most_numbers: u64) -> Compared {
         self.readings()?;
         self.checks()?;
+        self.limits()?;
         self.at_random()?;
         for number in self.numbers(most_numbers) {
             self.writing(number)?;
@@ -215,6 +217,7 @@ impl<'a, S: Side> Comparison<'a, S> {
     pub fn each_operation_once(&mut self) -> Compared {
         self.readings()?;
         self.checks()?;
+        self.limits()?;
         for number in self.each_number() {
             let points = self.point_count(number);
             self.write_in(number, self.text_length(number))?;
@@ -240,10 +243,11 @@ pub fn compare<S: Side>(side: &S, pair: &Pair, seed: u64, most_numbers: u64) -> 
     comparison.tallied(&before)
 }
 
-/// Compares the check and the searches alone, for up to so many of the numbers: where the rest would take longer than they do.
+/// Compares the checks and the searches alone, for up to so many of the numbers: where the rest would take longer than they do.
 pub fn compare_findings<S: Side>(side: &S, pair: &Pair, seed: u64, most_numbers: u64) -> Result<Tally, Mismatch> {
     let mut comparison = Comparison::new(side, pair, seed);
     comparison.checks()?;
+    comparison.limits()?;
     for number in comparison.numbers(most_numbers) {
         comparison.searching(number)?;
     }

@@ -1,4 +1,4 @@
-//! The arguments of a seed: a number, room, places and a placement table for the operations, mostly within what a pair has.
+//! The arguments of a seed: a number, room, places, a placement table and limits for the operations, mostly within what a pair has.
 use crate::outcome::Table;
 use crate::random::Random;
 use crate::reference::operations::{Opened, MOST_POINTS};
@@ -30,4 +30,26 @@ pub fn arguments_of(seed: u64, opened: &Opened) -> Arguments {
         table.count = random.below(MOST_POINTS + 3);
     }
     Arguments { number, room: random.below(2 * length + 1), places: random.below(2 * points + 2), table }
+}
+
+/// Up to so many matchings, every limit is tried that makes a difference.
+const FEW_MATCHINGS: u64 = 10;
+
+/// Document 02, A10: limits, in order: each up to one more than the antecedent has matchings, or of many those next to their number and to the first
+/// violating one, and some at random; and limits that no log has matchings for.
+pub fn limits_of(seed: u64, opened: &Opened) -> Vec<u64> {
+    let mut random = Random::new(!seed);
+    let fronts = opened.fronts().unwrap_or(&[]);
+    let count = fronts.len() as u64;
+    let mut limits = vec![0, 1, 2, count, count + 1, 1 << 32, (1 << 32) + 1, random.next(), u64::MAX];
+    if count <= FEW_MATCHINGS {
+        limits.extend(0..count);
+    } else {
+        let violating = fronts.iter().position(|front| front.rows.is_some());
+        limits.extend(violating.into_iter().flat_map(|index| index as u64..index as u64 + 3));
+        limits.extend([count - 1, random.next() % count, random.next() % count, random.next() % count]);
+    }
+    limits.sort();
+    limits.dedup();
+    limits
 }

@@ -10,7 +10,7 @@ pub mod tried;
 
 use crate::outcome::*;
 use antiscenario::Antiscenario;
-use check::Violation;
+use check::{Ending, Limited, Violation};
 use log::Log;
 use search::{Positions, Visitor, ENDED};
 use sheet::Sheet;
@@ -19,7 +19,9 @@ const NUMBER: u32 = 31;
 const BUFFER: u32 = 32;
 const PLACES: u32 = 33;
 const POSITIONS: u32 = 34;
+const HOLDS: u32 = 0;
 const VIOLATED: u32 = 100;
+const STOPPED: u32 = 102;
 
 /// A refusal's number and the offset and length of the line that it is about.
 pub type Refused = (u32, usize, usize);
@@ -88,12 +90,33 @@ pub fn check(sheet: &[u8], log: &[u8]) -> Result<Option<Violation>, u32> {
     Ok(check::check(&sheet, &log))
 }
 
+pub fn check_limited(sheet: &[u8], log: &[u8], limit: u64) -> Result<Limited, u32> {
+    let (sheet, mut log) = (read_sheet(sheet)?, read_log(log)?);
+    draw_maps(&sheet, &mut log);
+    Ok(check::check_limited(&sheet, &log, limit))
+}
+
+/// What the check writes: a violation, or nothing with this answer.
+fn checked(result: Result<Violation, u32>) -> Checked {
+    let mut positions = guarded(4, PATTERN_WORD);
+    let mut rows = guarded(6, PATTERN_WORD);
+    let (answer, points, consequents) = match result {
+        Err(answer) => (answer, PATTERN_WORD, PATTERN_WORD),
+        Ok(found) => {
+            positions[GUARD..GUARD + found.points].copy_from_slice(&found.positions[..found.points]);
+            rows[GUARD..GUARD + found.consequents].copy_from_slice(&found.rows[..found.consequents]);
+            (VIOLATED, found.points as u32, found.consequents as u32)
+        }
+    };
+    Checked { answer, positions, points, rows, consequents }
+}
+
 /// Plain Rust behind the C interface's operations, to be compared with the reference like the proved code.
 pub struct Plain;
 
 impl Side for Plain {
     fn check_number(&self, sheet: &[u8], log: &[u8]) -> u32 {
-        check(sheet, log).map_or_else(|refusal| refusal, |violation| violation.map_or(0, |_| VIOLATED))
+        check(sheet, log).map_or_else(|refusal| refusal, |violation| violation.map_or(HOLDS, |_| VIOLATED))
     }
 
     fn read_log(&self, text: &[u8]) -> LogRead {
@@ -134,18 +157,21 @@ impl Side for Plain {
     }
 
     fn check(&self, sheet: &[u8], log: &[u8]) -> Checked {
-        let mut positions = guarded(4, PATTERN_WORD);
-        let mut rows = guarded(6, PATTERN_WORD);
-        let (answer, points, consequents) = match check(sheet, log) {
-            Ok(None) => (0, PATTERN_WORD, PATTERN_WORD),
-            Err(refusal) => (refusal, PATTERN_WORD, PATTERN_WORD),
-            Ok(Some(found)) => {
-                positions[GUARD..GUARD + found.points].copy_from_slice(&found.positions[..found.points]);
-                rows[GUARD..GUARD + found.consequents].copy_from_slice(&found.rows[..found.consequents]);
-                (VIOLATED, found.points as u32, found.consequents as u32)
+        checked(check(sheet, log).and_then(|violation| violation.ok_or(HOLDS)))
+    }
+
+    fn check_limited(&self, sheet: &[u8], log: &[u8], limit: u64) -> LimitedCheck {
+        match check_limited(sheet, log, limit) {
+            Err(refusal) => LimitedCheck { checked: checked(Err(refusal)), looked: PATTERN_COUNT, after: PATTERN_COUNT },
+            Ok(Limited { ending, looked, after }) => {
+                let violation = match ending {
+                    Ending::Holds => Err(HOLDS),
+                    Ending::Violated(violation) => Ok(violation),
+                    Ending::Stopped => Err(STOPPED),
+                };
+                LimitedCheck { checked: checked(violation), looked, after }
             }
-        };
-        Checked { answer, positions, points, rows, consequents }
+        }
     }
 
     fn show(&self, sheet: &[u8], log: &[u8]) -> Shown {

@@ -79,6 +79,44 @@ pub enum Blunder {
     EndsWantOrder,
     /// A8: losing the upper half of the set in the short denial.
     ShortUpperHalfLost,
+    /// A10: the one more counted as looked at.
+    OneMoreCounted,
+    /// A10: the one more counted in the number looked at alone.
+    OneMoreInNumber,
+    /// A10: the placements after the one more, not after the last one looked at.
+    AfterOneMore,
+    /// A10: the one more left out of the placements after.
+    OneMoreLeftOut,
+    /// A10: holds at the limit, though there is one more.
+    HoldsAtLimit,
+    /// A10: stopped at exactly the limit, though there is none more.
+    StopsAtLimit,
+    /// A10: looking on behind the first that extends nowhere.
+    LooksOn,
+    /// A10: looking at one less than the limit.
+    OneLessLookedAt,
+    /// A10: looking at one more than the limit.
+    OneMoreLookedAt,
+    /// A10: a limit of 0 taken as no limit.
+    ZeroIsNoLimit,
+    /// A10: the limit in 32 bits, so that 4,294,967,297 is 1.
+    LimitIn32Bits,
+    /// A10: one placement after too few.
+    AfterOneTooFew,
+    /// A10: one placement after too many.
+    AfterOneTooMany,
+    /// A10: the one reported counted among the placements after.
+    ReportedInAfter,
+    /// A10: no placement after where the sheet holds.
+    HoldsWithNoneAfter,
+    /// A10: no placement after where none was looked at.
+    NoneAfterNone,
+    /// A10: taking n^0 as 0.
+    NoPointsNoPlacement,
+    /// A10: taking 0^0 alone as 0.
+    NoLinesNoPlacement,
+    /// A10: matchings that the check without a limit passes over are not counted.
+    PassedOverUncounted,
     /// No blunder: document 01 as it was before A1, with events up to 31 and sets of a alone. WITHIN is A9's, and denials are A8's.
     BeforeA1,
     /// No blunder: document 01 as it was before A9, with distances taken as exact. Events, sets, N and denials are those of A1, A4 and A8.
@@ -109,4 +147,27 @@ pub const IN_FAR_ENDS: [Blunder; 20] = [
     Blunder::EndsWantOrder,
     Blunder::ShortUpperHalfLost,
     Blunder::BeforeA8,
+];
+
+/// Document 02, A10: its slips, each of which answers otherwise with some limit.
+pub const IN_LIMITS: [Blunder; 19] = [
+    Blunder::OneMoreCounted,
+    Blunder::OneMoreInNumber,
+    Blunder::AfterOneMore,
+    Blunder::OneMoreLeftOut,
+    Blunder::HoldsAtLimit,
+    Blunder::StopsAtLimit,
+    Blunder::LooksOn,
+    Blunder::OneLessLookedAt,
+    Blunder::OneMoreLookedAt,
+    Blunder::ZeroIsNoLimit,
+    Blunder::LimitIn32Bits,
+    Blunder::AfterOneTooFew,
+    Blunder::AfterOneTooMany,
+    Blunder::ReportedInAfter,
+    Blunder::HoldsWithNoneAfter,
+    Blunder::NoneAfterNone,
+    Blunder::NoPointsNoPlacement,
+    Blunder::NoLinesNoPlacement,
+    Blunder::PassedOverUncounted,
 ];

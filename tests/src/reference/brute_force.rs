@@ -2,9 +2,10 @@
 use super::antiscenario::antiscenario;
 use super::blunder::Blunder;
 use super::cut::CutDown;
+use super::limited::{all_placements, placements_after, Course};
 use super::log::Log;
 use super::operations::{smallest_by_brute_force, verdict, violating, Verdict};
-use super::rows::{matchings, placement_count, points};
+use super::rows::{matchings, placement_count, placements, points};
 use super::sheet::{self, Row, Sheet};
 use super::weeded;
 use crate::generate::pairs::has_short_denial;
@@ -115,5 +116,40 @@ fn verdicts_are_those_of_brute_force() {
         let all: Vec<Verdict> = matchings(&sheet.section(0), &log).into_iter().filter_map(violated).collect();
         assert_eq!(violating(&sheet, &log).len(), all.len());
         assert_eq!(verdict(&sheet, &log), all.into_iter().next().unwrap_or(Verdict::Holds));
+    }
+}
+
+/// Document 02, A10: those after one, and all of them, n^0 among them.
+#[test]
+fn placements_are_as_many_as_are_counted() {
+    for (n, count) in (0..=6).flat_map(|n| (0..=4).map(move |count| (n, count))) {
+        let all = placements(&logs::uniform(n, 3), count);
+        assert_eq!(all_placements(n, count), all.len() as u64);
+        for (index, placement) in all.iter().enumerate() {
+            let after = all.iter().filter(|other| *other > placement).count();
+            assert_eq!((placements_after(n, placement), after), (after as u64, all.len() - index - 1));
+        }
+    }
+}
+
+/// Document 02, A10: with every limit, by the matchings and the violating ones that brute force finds.
+#[test]
+fn limits_are_those_of_brute_force() {
+    for (sheet, log) in few_placements(16, 1000) {
+        let (course, all) = (Course::new(&sheet, &log), placements(&log, points(&sheet.section(0)).len()));
+        let matchings = matchings(&sheet.section(0), &log);
+        let is_violating = |front: &Vec<u32>| (1..=sheet.k).all(|section| row_at_fault(&sheet, &log, section, front).is_some());
+        let first_violating = matchings.iter().position(is_violating);
+        for limit in (0..=matchings.len() + 1).chain([usize::MAX]) {
+            let violated = first_violating.filter(|index| *index < limit);
+            let looked = violated.map_or(matchings.len().min(limit), |index| index + 1);
+            let due = match violated {
+                None if matchings.len() > limit => None,
+                _ => Some(violated.map_or(Verdict::Holds, |_| verdict(&sheet, &log))),
+            };
+            let after = all.iter().filter(|placement| looked == 0 || **placement > matchings[looked - 1]).count();
+            let limited = course.check(limit as u64);
+            assert_eq!((limited.verdict, limited.looked, limited.after), (due, looked as u64, after as u64));
+        }
     }
 }

@@ -1,5 +1,6 @@
 //! The reference alone on the examples of document 01.
 use super::blunder::Blunder;
+use super::limited::Limited;
 use super::log::{self, Line, Log};
 use super::operations::{open, Opened, Verdict};
 use super::refusal::Refusal;
@@ -71,6 +72,15 @@ fn next_is_denied_up_to_an_antecedent_point() {
         let written = pair(&sheet::text(1, &[&points, order, &chain].concat()), &[]).write(1, 3437);
         assert_eq!(written, Ok(sheet::text(1, &[&points, order, &[Row::new(1, 9, 1, far, 4, 1)]].concat())));
     }
+}
+
+/// Document 02, A10: the one more is not looked at, and may be violating.
+#[test]
+fn a_limit_of_none() {
+    let opened = pair(&sheet::text(0, &[Row::new(0, 1, 1, 0, 8, 0)]), &[(5, 3)]);
+    assert_eq!(opened.check_limited(0), Ok(Limited { verdict: None, looked: 0, after: 1 }));
+    let violated = opened.check().ok();
+    assert_eq!(opened.check_limited(1), Ok(Limited { verdict: violated, looked: 1, after: 0 }));
 }
 
 #[test]

@@ -4,6 +4,8 @@ pub mod blunder;
 pub mod columns;
 pub mod cut;
 pub mod far_end;
+mod limit_slips;
+pub mod limited;
 pub mod log;
 pub mod operations;
 pub mod refusal;
