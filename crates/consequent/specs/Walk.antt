@@ -13,7 +13,6 @@ use Rattle.scenario.specs.Fields.{Tagged}
 use Rattle.scenario.specs.Reading.{All}
 use Rattle.pattern.specs.Placing.{by}
 use Rattle.run.specs.Held.{orZero}
-use Rattle.consequent.specs.declared.Faults.{Faults}
 
 -- p at the position found, 0 for none
 abbrev pub ontoIn : List ℕ → (p x : ℕ) → Option (List ℕ)
@@ -54,6 +53,11 @@ unfoldable pub faultIn : Run → (i : ℕ) → List ℕ → (j : ℕ) → List T
 faultIn run i E j [] = 0
 faultIn run i E j (t ∷ ts) =
     cond (eqb (t .section) i) (onward (advanceIn run E (t .row)) (suc j) (λ E'. faultIn run i E' (suc j) ts)) (faultIn run i E (suc j) ts)
+
+-- The rows at fault, one to a consequent, where each has one; else the first consequent that has none, from 1.
+pub record Faults : Type 0 where
+  pub rows : List ℕ
+  pub met : ℕ
 
 abbrev pub faulty : (met : ℕ) → List ℕ → Faults
 faulty met rows = record { met = met; rows = rows }

@@ -10,12 +10,6 @@ ghost use Rattle.row.specs.Memory.{rowAt, tagsOf};
 ghost use Rattle.consequent.specs.Walk.{advanceIn, isSome, orKeep, faultsIn, Kept};
 ghost use Rattle.sheet.specs.Held.{SheetHeld};
 
-// The rows at fault, one to a consequent, where each has one; else the first consequent that has none, from 1.
-pub struct Faults {
-    pub rows: [u32; 6],
-    pub met: u32,
-}
-
 // Puts a position that was found as that of point p; 0 is none.
 fn put(positions: &mut [u32], p: u32, x: u32) -> bool
     ensures found { λ r. ⌜ r ≡ not (eqb x 0) ⌝ }
@@ -65,20 +59,21 @@ pub fn advance(
     pattern::meets(run, positions, rows, j)
 }
 
-// For each consequent the first row that cannot be met, over these positions; or the first consequent all of whose rows can be.
-// The rows place their consequent's points among them: no other consequent uses them.
+// For each consequent the first row that cannot be met, over these positions, to `faults`, in which there are zeros, and 0; or the first consequent, from 1, all of whose rows can be
+// met. The rows place their consequent's points among the positions: no other consequent uses them.
 pub fn at_fault(
     run: &[u64; run::ROOM],
     rows: &[u32; pattern::ROWS_ROOM],
     count: u32,
     k: u32,
     positions: &mut [u32; pattern::POINT_NUMBERS],
-) -> Faults
-    requires { ⌜ Held (now run) × SheetHeld (now rows) count k × (length (now positions) ≡ point-numbers) ⌝ }
-    ensures faults { λ r. ⌜ r ≡ faultsIn (runHeld (now (run .entry))) (tagsOf (now (rows .entry)) count) (now (positions .entry)) 0 k (replicate 6 0) ⌝ }
+    faults: &mut [u32; 6],
+) -> u32
+    requires { ⌜ Held (now run) × SheetHeld (now rows) count k × (length (now positions) ≡ point-numbers) × (now faults ≡ replicate 6 0) ⌝ }
+    ensures met { λ r. ⌜ r ≡ faultsIn (runHeld (now (run .entry))) (tagsOf (now (rows .entry)) count) (now (positions .entry)) 0 k (replicate 6 0) .met ⌝ }
+    ensures rows { λ r. ⌜ (r ≡ 0 → now (faults .exit) ≡ faultsIn (runHeld (now (run .entry))) (tagsOf (now (rows .entry)) count) (now (positions .entry)) 0 k (replicate 6 0) .rows) ⌝ }
     ensures kept { λ _. ⌜ Kept (tagsOf (now (rows .entry)) count) (now (positions .entry)) (now (positions .exit)) ⌝ }
 {
-    let mut faults = [0u32; 6];
     let mut c: u32 = 0;
     'consequents: while c < k {
         let mut j: u32 = 0;
@@ -96,17 +91,11 @@ pub fn at_fault(
             j += 1;
         };
         if row == 0 {
-            return Faults {
-                rows: [0; 6],
-                met: c + 1,
-            };
+            return c + 1;
         }
         let i = c as usize;
         faults[i] = row;
         c += 1;
     }
-    Faults {
-        rows: faults,
-        met: 0,
-    }
+    0
 }

@@ -28,8 +28,7 @@ use Rattle.placement.proofs.Order.{beyond-not, place-number, number-below, numb
 use Rattle.placement.proofs.Following.{from, over-first-none, over-first, over-hit, over-last, over-next}
 use Rattle.sheet.specs.Held.{sheetAt, SheetHeld}
 use Rattle.pair.specs.Antecedent.{AntecedentPlanned}
-use Rattle.consequent.specs.declared.Faults.{Faults}
-use Rattle.consequent.specs.Walk.{faultsIn, Kept}
+use Rattle.consequent.specs.Walk.{Faults, faultsIn, Kept}
 use Rattle.verdict.specs.Check.{verdictOf, blank}
 use Rattle.verdict.specs.Memory.{Reaches, placesIn, violatedBy}
 use Rattle.verdict.proofs.Turn.{judged, alike, places-kept, stands-still, named}
@@ -88,15 +87,18 @@ module _ (held : List ℕ) (H : Held held) (rows : List ℕ) (count k : ℕ) (S 
   begins E z = record { stands = z .0; least = sym (over-first (run .lines) (length ps) (matching run rs) (is-violating run sheet) only (map (by E) ps) (z .1)) ∙ check-is }
 
   -- A turn: f is what the walk over the consequents says of E, and E' what it leaves.
-  module _ (E : List ℕ) (U : Turns E) (f : Faults) (ef : f ≡ faultsIn run (tagsOf rows count) E 0 k (replicate 6 0)) (E' : List ℕ) (K : Kept (tagsOf rows count) E E') where
+  module _ (E : List ℕ) (U : Turns E) (E' : List ℕ) (K : Kept (tagsOf rows count) E E') where
+    abbrev f : Faults
+    f = faultsIn run (tagsOf rows count) E 0 k (replicate 6 0)
+
     abbrev zs : List ℕ
     zs = map (by E') ps
 
     same : zs ≡ map (by E) ps
-    same = places-kept held H rows count k S plan P E (U .stands) f ef E' K
+    same = places-kept held H rows count k S plan P E (U .stands) E' K
 
     pub walked : Stands E'
-    walked = stands-still held H rows count k S plan P E (U .stands) f ef E' K
+    walked = stands-still held H rows count k S plan P E (U .stands) E' K
 
     least-is : left-over zs ≡ check run sheet
     least-is = ap left-over same ∙ U .least
@@ -110,17 +112,18 @@ module _ (held : List ℕ) (H : Held held) (rows : List ℕ) (count k : ℕ) (S 
     -- each consequent has a row at fault
     pub violated : f .met ≡ 0 → violatedBy (point-count plan) k (placesIn plan E') (f .rows) ≡ verdictOf run sheet (check run sheet)
     violated e =
-        let bad : T (is-violating run sheet zs) = subst (λ (z : List ℕ). T (is-violating run sheet z)) (sym same) (subst T (sym (eq-eqb (f .met) 0 e) ∙ judged held H rows count k S plan P E (U .stands) f ef) tt) in
-        named held H rows count k S plan P E (U .stands) f ef E' K e
+        let bad : T (is-violating run sheet zs) = subst (λ (z : List ℕ). T (is-violating run sheet z)) (sym same) (subst T (sym (eq-eqb (f .met) 0 e) ∙ judged held H rows count k S plan P E (U .stands)) tt) in
+        named held H rows count k S plan P E (U .stands) E' K e
         ∙ ap (verdictOf run sheet) (sym (ap found same) ∙ sym (over-hit (run .lines) (length ps) (matching run rs) (is-violating run sheet) only zs size lines bad) ∙ least-is)
 
-    -- or one has none: on to the next matching behind those that it extends alike
-    module _ (nz : f .met ≡ 0 → ⊥) (reaches : List ℕ) (X : Reaches rows count (take (point-count plan) (pointsIn plan)) reaches) where
+    -- or consequent `met` has none: on to the next matching behind those that it extends alike
+    module _ (met : ℕ) (em : met ≡ f .met) (nz : met ≡ 0 → ⊥) (reaches : List ℕ) (X : Reaches rows count (take (point-count plan) (pointsIn plan)) reaches) where
       abbrev kept : ℕ
-      kept = getD reaches (f .met) 0
+      kept = getD reaches met 0
 
       missed : (us : List ℕ) → length us ≡ length ps → take kept us ≡ take kept zs → T (not (is-violating run sheet us))
-      missed us l e = alike held H rows count k S plan P E (U .stands) f ef reaches X nz us l (e ∙ ap (take kept) same)
+      missed us l e = subst (λ (c : ℕ). (c ≡ 0 → ⊥) → take (getD reaches c 0) us ≡ take (getD reaches c 0) (map (by E) ps) → T (not (is-violating run sheet us))) (sym em)
+          (λ n. alike held H rows count k S plan P E (U .stands) reaches X n us l) nz (e ∙ ap (take kept) same)
 
       pub no-other : false ≡ isFound (next-matching run rs kept zs) → blank 0 ≡ verdictOf run sheet (check run sheet)
       unfolding next-matching

@@ -1,7 +1,7 @@
 -- `at_fault` meets its contract. Rows: what the walk says from row j on is what it says from the first. Consequents: the same from c on.
 -- Both leave the points alone that no consequent introduces, so that each consequent is walked as over the array at the start.
 use borrow.Author.Needs.{needs}
-use mathlib.Core.Path.{_≡_, sym, _∙_, subst}
+use mathlib.Core.Path.{_≡_, refl, sym, _∙_, ap, subst}
 use mathlib.Core.Logic.{⊎-elim}
 use Prim.Native.Nat.{_+_, _≤_, _-_}
 use native.Mathlib.Nat.{sub-zero}
@@ -11,7 +11,7 @@ use borrow.Author.Tests.{not-true, not-false}
 use Rattle.run.specs.Held.{runHeld}
 use Rattle.run.proofs.Logs.{seen-laws}
 use Rattle.row.specs.Memory.{listed, tagAt, tagsOf}
-use Rattle.consequent.specs.Walk.{faultIn, faultsIn, Kept}
+use Rattle.consequent.specs.Walk.{Faults, faultIn, faultsIn, Kept}
 use Rattle.consequent.proofs.Advancing.{fault-end, skip, stuck, passed, faults-end, faults-none, faults-on}
 use Rattle.consequent.proofs.Walk.{kept-all, kept-on, fault-same, row-keeps}
 use Rattle.consequent.proofs.at_fault.Statement.{statement}
@@ -75,7 +75,10 @@ env-is c =
     (c .if1 .came)))
 
 consequents-holds : tie.Need-consequents-holds Inv-rows μ-rows Inv-consequents μ-consequents
-consequents-holds c = let a = c .args in (search needs, search needs, kept-all (tagsOf (a .rows .now) (a .count)) (a .positions .now), rw sub-zero)
+consequents-holds c =
+    let a = c .args in
+    let z = c .pre .3 in
+    (search needs, ap length z, kept-all (tagsOf (a .rows .now) (a .count)) (a .positions .now), rw (sub-zero, z) refl)
 
 rows-holds : tie.Need-rows-holds Inv-rows μ-rows Inv-consequents μ-consequents
 unfolding tagsOf
@@ -116,7 +119,8 @@ rows-again-2 c =
 returns : tie.Need-returns Inv-rows μ-rows Inv-consequents μ-consequents
 returns c =
     let at = c .before .before .before .before in
-    (sym (sym (at .consequents .inv .3) ∙ faults-none _ _ _ (at .consequents .c) _ _ (search needs) (sym (row-is (c .before)) ∙ c .if4 .taken)), env-is (c .before))
+    let e = sym (sym (at .consequents .inv .3) ∙ faults-none _ _ _ (at .consequents .c) _ _ (search needs) (sym (row-is (c .before)) ∙ c .if4 .taken)) in
+    (ap (λ (z : Faults). z .met) e, (λ z. absurd (omega (arith, z)), env-is (c .before)))
 
 consequents-again : tie.Need-consequents-again Inv-rows μ-rows Inv-consequents μ-consequents
 consequents-again c =
@@ -125,7 +129,9 @@ consequents-again c =
     (search needs, simp length-set (search needs), env-is row, sym (faults-on _ _ _ (at .consequents .c) _ _ (search needs) (row .if1 .row) (sym (row-is row)) (c .if4 .left)) ∙ at .consequents .inv .3)
 
 returns-2 : tie.Need-returns-2 Inv-rows μ-rows Inv-consequents μ-consequents
-returns-2 c = (sym (sym (c .before .consequents .inv .3) ∙ faults-end _ _ _ (c .before .consequents .c) _ _ (c .consequents-test .left)), c .before .consequents .inv .2)
+returns-2 c =
+    let e = sym (sym (c .before .consequents .inv .3) ∙ faults-end _ _ _ (c .before .consequents .c) _ _ (c .consequents-test .left)) in
+    (ap (λ (z : Faults). z .met) e, (λ z. ap (λ (f : Faults). f .rows) e, c .before .consequents .inv .2))
 
 pub at-fault-spec : {M : Type 1} → statement M
 at-fault-spec =

@@ -16,7 +16,7 @@ use Rattle.plan.specs.Tables.{point-count, row-count, pointsIn}
 use Rattle.placement.specs.Placing.{Standing}
 use Rattle.placement.proofs.Starting.{roomy}
 use Rattle.pair.specs.Antecedent.{AntecedentPlanned}
-use Rattle.verdict.specs.Memory.{Reaches}
+use Rattle.verdict.specs.Memory.{Reaches, placesIn, violatedBy}
 use Rattle.verdict.proofs.Turn.{met-below}
 use Rattle.verdict.proofs.Loop.{still, Turning, none-at-all, begins, walked, violated, no-other, goes-on, falls}
 use borrow.Author.Needs.{needs}
@@ -79,7 +79,7 @@ loop-holds c =
 -- A turn, once the walk over the consequents is done
 module _ (w : tie.After-at-fault Inv-loop μ-loop) where
   abbrev l : tie.At-loop Inv-loop μ-loop
-  l = w .before .before
+  l = w .before .before .before
 
   abbrev m : tie.Start Inv-loop μ-loop
   m = l .before .before .before .before
@@ -89,37 +89,38 @@ module _ (w : tie.After-at-fault Inv-loop μ-loop) where
   left = w .at-fault .last .1 .1 .1 .1 .0
 
   still-there : Standing (runHeld (held m)) (line-count (held m)) (rows m) (plan m) left
-  still-there = walked (held m) (H m) (rows m) (count m) (k m) (S m) (plan m) (P m) (l .loop .positions) (l .loop .inv) (w .at-fault .result) (w .at-fault .ensures .0) left (w .at-fault .ensures .1)
+  still-there = walked (held m) (H m) (rows m) (count m) (k m) (S m) (plan m) (P m) (l .loop .positions) (l .loop .inv) left (w .at-fault .ensures .1 .1)
 
-  small : w .at-fault .result .met < 7
-  small = omega (arith, met-below (held m) (H m) (rows m) (count m) (k m) (S m) (plan m) (P m) (l .loop .positions) (l .loop .inv .stands) (w .at-fault .result) (w .at-fault .ensures .0))
+  small : w .at-fault .result < 7
+  small = omega (arith, met-below (held m) (H m) (rows m) (count m) (k m) (S m) (plan m) (P m) (l .loop .positions) (l .loop .inv .stands), w .at-fault .ensures .0)
 
 violated-by-requires : tie.Need-violated-by-requires Inv-loop μ-loop
 violated-by-requires c κs =
-    let a = m (c .before .before .before .before) in
+    let a = m (c .before .before) in
     (omega (arith, P a .drawn .number, ap (λ z. length (points z)) (P a .antecedent-rows), S a .read .few), number a)
 
 returns-2 : tie.Need-returns-2 Inv-loop μ-loop
 returns-2 c =
-    let w = c .before .before .before .before .before in
+    let w = c .before .before .before in
     let a = m w in
+    let z = c .before .before .if2 .taken in
     c .violated-by .ensures
-    ∙ violated (held a) (H a) (rows a) (count a) (k a) (S a) (plan a) (P a) (l w .loop .positions) (l w .loop .inv) (w .at-fault .result) (w .at-fault .ensures .0) (left w) (w .at-fault .ensures .1)
-    (c .before .before .before .if2 .taken)
+    ∙ ap (violatedBy (point-count (plan a)) (k a) (placesIn (plan a) (left w))) (w .at-fault .ensures .1 .0 z)
+    ∙ violated (held a) (H a) (rows a) (count a) (k a) (S a) (plan a) (P a) (l w .loop .positions) (l w .loop .inv) (left w) (w .at-fault .ensures .1 .1) (sym (w .at-fault .ensures .0) ∙ z)
 
 next-requires : tie.Need-next-requires Inv-loop μ-loop
 next-requires c κs =
-    let w = c .before .before .before .before .before in
+    let w = c .before .before .before in
     let a = m w in
-    (H a, P a .drawn .linked, still-there w, omega (arith, X a .most (w .at-fault .result .met), length-take-le (point-count (plan a)) (pointsIn (plan a)) (number a)))
+    (H a, P a .drawn .linked, still-there w, omega (arith, X a .most (w .at-fault .result), length-take-le (point-count (plan a)) (pointsIn (plan a)) (number a)))
 
 -- The next matching has been looked for.
 module _ (x : tie.After-next Inv-loop μ-loop) where
   abbrev one : tie.Else2 Inv-loop μ-loop
-  one = x .before .before .before .before
+  one = x .before .before .before
 
   abbrev w : tie.After-at-fault Inv-loop μ-loop
-  w = one .before .before
+  w = one .before
 
 returns-3 : tie.Need-returns-3 Inv-loop μ-loop
 returns-3 c =
@@ -127,24 +128,24 @@ returns-3 c =
     let v = w x in
     let a = m v in
     c .unviolated2 .ensures
-    ∙ no-other (held a) (H a) (rows a) (count a) (k a) (S a) (plan a) (P a) (l v .loop .positions) (l v .loop .inv) (v .at-fault .result) (v .at-fault .ensures .0) (left v) (v .at-fault .ensures .1)
-    (one x .if2 .left) (reaches a) (X a) (sym (not-true _ (c .before .if3 .taken)) ∙ x .next .ensures .0)
+    ∙ no-other (held a) (H a) (rows a) (count a) (k a) (S a) (plan a) (P a) (l v .loop .positions) (l v .loop .inv) (left v) (v .at-fault .ensures .1 .1)
+    (v .at-fault .result) (v .at-fault .ensures .0) (one x .if2 .left) (reaches a) (X a) (sym (not-true _ (c .before .if3 .taken)) ∙ x .next .ensures .0)
 
 loop-less : tie.Need-loop-less Inv-loop μ-loop
 loop-less c =
     let x = c .before in
     let v = w x in
     let a = m v in
-    falls (held a) (H a) (rows a) (count a) (k a) (S a) (plan a) (P a) (l v .loop .positions) (l v .loop .inv) (v .at-fault .result) (v .at-fault .ensures .0) (left v) (v .at-fault .ensures .1)
-    (one x .if2 .left) (reaches a) (X a) (x .next .last .1 .1 .1 .0) (x .next .ensures .1 .1 (not-false _ (c .if3 .left)))
+    falls (held a) (H a) (rows a) (count a) (k a) (S a) (plan a) (P a) (l v .loop .positions) (l v .loop .inv) (left v) (v .at-fault .ensures .1 .1)
+    (v .at-fault .result) (v .at-fault .ensures .0) (one x .if2 .left) (reaches a) (X a) (x .next .last .1 .1 .1 .0) (x .next .ensures .1 .1 (not-false _ (c .if3 .left)))
 
 loop-again : tie.Need-loop-again Inv-loop μ-loop
 loop-again c =
     let x = c .before in
     let v = w x in
     let a = m v in
-    goes-on (held a) (H a) (rows a) (count a) (k a) (S a) (plan a) (P a) (l v .loop .positions) (l v .loop .inv) (v .at-fault .result) (v .at-fault .ensures .0) (left v) (v .at-fault .ensures .1)
-    (one x .if2 .left) (reaches a) (X a) (x .next .last .1 .1 .1 .0) (x .next .ensures .1 .1 (not-false _ (c .if3 .left)))
+    goes-on (held a) (H a) (rows a) (count a) (k a) (S a) (plan a) (P a) (l v .loop .positions) (l v .loop .inv) (left v) (v .at-fault .ensures .1 .1)
+    (v .at-fault .result) (v .at-fault .ensures .0) (one x .if2 .left) (reaches a) (X a) (x .next .last .1 .1 .1 .0) (x .next .ensures .1 .1 (not-false _ (c .if3 .left)))
 
 pub first-violation-spec : {M : Type 1} → statement M
 first-violation-spec =
@@ -156,12 +157,12 @@ first-violation-spec =
     (λ c κs. search needs)
     returns
     loop-holds
-    (λ c κs. let a = c .before .before .before .before .before in (H a, S a, c .before .loop .inv .stands .fixed .size))
+    (λ c κs. let a = c .before .before .before .before .before .before in (H a, S a, c .before .before .loop .inv .stands .fixed .size, refl))
     violated-by-requires
     returns-2
     (λ c. search needs)
-    (λ c. record { fits = omega (arith, small (c .before .before .before .before)) })
-    (λ c. let w = c .before .before .before .before in omega (arith, small w, X (m w) .size))
+    (λ c. record { fits = omega (arith, small (c .before .before)) })
+    (λ c. let w = c .before .before in omega (arith, small w, X (m w) .size))
     next-requires
     (λ c κs. search needs)
     returns-3
