@@ -1,2 +1,3 @@
 pub mod Advancing
 pub mod Walk
+pub mod Sections

@@ -1,12 +1,12 @@
 // The walk over a consequent: a row further, and the first row that cannot be met.
 ghost use mathlib.Core.Path.{_≡_};
 ghost use mathlib.Core.Bool.{not, cond};
-ghost use Prim.Native.Nat.{_<_};
+ghost use Prim.Native.Nat.{ℕ, _≤_, _<_};
 ghost use lib.ListN.{length, set, replicate};
 ghost use lib.Dec.{eqb};
 ghost use Rattle.scenario.specs.Reading.{point-numbers};
 ghost use Rattle.run.specs.Held.{Held, runHeld};
-ghost use Rattle.row.specs.Memory.{rowAt, tagsOf};
+ghost use Rattle.row.specs.Memory.{sectionAt, rowAt, tagsOf};
 ghost use Rattle.consequent.specs.Walk.{advanceIn, isSome, orKeep, faultsIn, Kept};
 ghost use Rattle.sheet.specs.Held.{SheetHeld};
 
@@ -60,23 +60,25 @@ pub fn advance(
 }
 
 // For each consequent the first row that cannot be met, over these positions, to `faults`, in which there are zeros, and 0; or the first consequent, from 1, all of whose rows can be
-// met. The rows place their consequent's points among the positions: no other consequent uses them.
+// met. The rows place their consequent's points among the positions: no other consequent uses them. The consequents' rows are those from `first` on, one consequent's after another's, so
+// that each is looked for behind where the one before it was left.
 pub fn at_fault(
     run: &[u64; run::ROOM],
     rows: &[u32; pattern::ROWS_ROOM],
+    first: u32,
     count: u32,
     k: u32,
     positions: &mut [u32; pattern::POINT_NUMBERS],
     faults: &mut [u32; 6],
 ) -> u32
-    requires { ⌜ Held (now run) × SheetHeld (now rows) count k × (length (now positions) ≡ point-numbers) × (now faults ≡ replicate 6 0) ⌝ }
+    requires { ⌜ Held (now run) × SheetHeld (now rows) count k × (length (now positions) ≡ point-numbers) × (now faults ≡ replicate 6 0) × (first ≤ count) × ((i : ℕ) → i < first → sectionAt (now rows) i ≡ 0) ⌝ }
     ensures met { λ r. ⌜ r ≡ faultsIn (runHeld (now (run .entry))) (tagsOf (now (rows .entry)) count) (now (positions .entry)) 0 k (replicate 6 0) .met ⌝ }
     ensures rows { λ r. ⌜ (r ≡ 0 → now (faults .exit) ≡ faultsIn (runHeld (now (run .entry))) (tagsOf (now (rows .entry)) count) (now (positions .entry)) 0 k (replicate 6 0) .rows) ⌝ }
     ensures kept { λ _. ⌜ Kept (tagsOf (now (rows .entry)) count) (now (positions .entry)) (now (positions .exit)) ⌝ }
 {
     let mut c: u32 = 0;
+    let mut j = first;
     'consequents: while c < k {
-        let mut j: u32 = 0;
         let row = 'rows: loop {
             if count <= j {
                 break 'rows 0;

@@ -1,17 +1,21 @@
 -- The antecedent in memory: its rows stand first, and the plan for so many is its.
 -- Assumes nothing.
 use mathlib.Core.Path.{_≡_, refl, sym, _∙_, ap, subst}
+use mathlib.Core.Logic.{_⊎_, inl, inr}
+use mathlib.Core.Bool.{Bool, not, cond}
 use mathlib.Core.List.{List, [], _∷_, _++_, map, append-nil}
 use Prim.Native.Nat.{ℕ, zero, suc, _+_, _-_, _≤_, _<_}
 use native.Mathlib.Numerals.{add-one}
 use native.Mathlib.Omega.{arith}
 use lib.ListN.{length, take, length-map, length-append}
 use lib.Seq.{take-at}
+use lib.Dec.{T, eqb, eqb→eq}
 use borrow.Author.Tests.{eq-eqb, ne-eqb}
 use Rattle.scenario.specs.Rows.{Row}
 use Rattle.scenario.specs.Sheet.{Sheet, count as countOf, antiscenario, chosen, choices, choose, total, flat}
 use Rattle.scenario.specs.Fields.{Tagged, tag, tagged}
 use Rattle.scenario.specs.Reading.{SheetRead, Pattern}
+use Rattle.scenario.proofs.Base.{tell, is-true, is-false, Order, lower, level, upper, order}
 use Rattle.scenario.proofs.Patterns.{antiscenario-pattern}
 use Rattle.row.specs.Memory.{sectionAt, rowAt, listed, rowsOf, tagAt, tagsOf}
 use Rattle.sheet.specs.Held.{sheetAt, SheetHeld}
@@ -45,6 +49,18 @@ listed-length rows j (suc left) = ap suc (listed-length rows (suc j) left)
 untag : (rs : List Row) → map (λ (t : Tagged). t .row) (map (tag 0) rs) ≡ rs
 untag [] = refl
 untag (r ∷ rs) = ap (λ (z : List Row). r ∷ z) (untag rs)
+
+-- so many rows at the front are of section 0
+leading-own : (rows : List ℕ) (j left i : ℕ) → j ≤ i → i < j + leading (listed (tagAt rows) j left) → sectionAt rows i ≡ 0
+unfolding leading listed
+leading-own rows j zero i h l = absurd (omega arith)
+leading-own rows j (suc left) i h l = go (order j i) (tell (eqb (sectionAt rows j) 0)) (λ g m. leading-own rows (suc j) left i g m)
+  where
+    go : Order j i → T (eqb (sectionAt rows j) 0) ⊎ T (not (eqb (sectionAt rows j) 0)) → (suc j ≤ i → i < suc j + leading (listed (tagAt rows) (suc j) left) → sectionAt rows i ≡ 0) → sectionAt rows i ≡ 0
+    go (lower g) (inl t) f = f g (omega (arith, l, ap (λ (b : Bool). cond b (suc (leading (listed (tagAt rows) (suc j) left))) 0) (is-true (eqb (sectionAt rows j) 0) t)))
+    go (level e) (inl t) f = ap (sectionAt rows) (sym e) ∙ eqb→eq (sectionAt rows j) 0 t
+    go o (inr t) f = absurd (omega (arith, l, ap (λ (b : Bool). cond b (suc (leading (listed (tagAt rows) (suc j) left))) 0) (is-false (eqb (sectionAt rows j) 0) t)))
+    go (upper g) (inl t) f = absurd (omega arith)
 
 module _ (rows : List ℕ) (count k : ℕ) (S : SheetHeld rows count k) where
   abbrev whole-sheet : Sheet
@@ -85,7 +101,11 @@ module _ (rows : List ℕ) (count k : ℕ) (S : SheetHeld rows count k) where
 
   -- the plan for so many rows is the antecedent's
   pub antecedent-planned : (plan : List ℕ) → row-count plan ≡ length (whole-sheet .antecedent) → Drawn rows plan → AntecedentPlanned rows count k plan
-  antecedent-planned plan e D = record { antecedent-rows = ap (rowsOf rows) e ∙ antecedent-rows; drawn = D; pattern = rows-pattern (row-count plan) e; few = antecedent-small (row-count plan) e }
+  unfolding tagsOf
+  antecedent-planned plan e D = record { antecedent-rows = ap (rowsOf rows) e ∙ antecedent-rows; drawn = D; pattern = rows-pattern (row-count plan) e; few = antecedent-small (row-count plan) e; within = omega (arith, e, antecedent-below); own = λ i h. own i (omega (arith, e, antecedent-count)) }
+    where
+      own : (i : ℕ) → i < leading (tagsOf rows count) → sectionAt rows i ≡ 0
+      own i h = leading-own rows 0 count i (omega arith) (omega arith)
 
 -- One row more at the front
 

@@ -3,38 +3,41 @@
 use borrow.Author.Needs.{needs}
 use mathlib.Core.Path.{_≡_, refl, sym, _∙_, ap, subst}
 use mathlib.Core.Logic.{⊎-elim}
-use Prim.Native.Nat.{_+_, _≤_, _-_}
+use Prim.Native.Nat.{ℕ, _+_, _≤_, _<_, _-_}
 use native.Mathlib.Nat.{sub-zero}
 use native.Mathlib.Omega.{arith}
 use lib.ListN.{length, replicate, length-set}
 use borrow.Author.Tests.{not-true, not-false}
 use Rattle.run.specs.Held.{runHeld}
 use Rattle.run.proofs.Logs.{seen-laws}
-use Rattle.row.specs.Memory.{listed, tagAt, tagsOf}
+use Rattle.row.specs.Memory.{sectionAt, listed, tagAt, tagsOf}
 use Rattle.consequent.specs.Walk.{Faults, faultIn, faultsIn, Kept}
 use Rattle.consequent.proofs.Advancing.{fault-end, skip, stuck, passed, faults-end, faults-none, faults-on}
 use Rattle.consequent.proofs.Walk.{kept-all, kept-on, fault-same, row-keeps}
+use Rattle.consequent.proofs.Sections.{sections-rise, passed-over}
 use Rattle.consequent.proofs.at_fault.Statement.{statement}
 use Rattle.consequent.proofs.at_fault.Tie as tie
 
 abbrev Inv-rows : tie.InvT-rows
-Inv-rows run rows count k positions₀ faults c j₀ positions j =
+Inv-rows run rows first count k positions₀ faults c j₀ positions j =
     (j ≤ count)
     × Kept (tagsOf rows count) positions₀ positions
     × (faultIn (runHeld run) (c + 1) positions j (listed (tagAt rows) j (count - j)) ≡ faultIn (runHeld run) (c + 1) positions₀ 0 (tagsOf rows count))
 
 abbrev μ-rows : tie.MeasureT-rows
-μ-rows run rows count k positions₀ faults c j₀ positions j = count - j
+μ-rows run rows first count k positions₀ faults c j₀ positions j = count - j
 
 abbrev Inv-consequents : tie.InvT-consequents
-Inv-consequents run rows count k positions₀ faults₀ c₀ positions faults c =
+Inv-consequents run rows first count k positions₀ faults₀ c₀ j₀ positions faults c j =
     (c ≤ k)
     × (length faults ≡ 6)
     × Kept (tagsOf rows count) positions₀ positions
     × (faultsIn (runHeld run) (tagsOf rows count) positions₀ c (k - c) faults ≡ faultsIn (runHeld run) (tagsOf rows count) positions₀ 0 k (replicate 6 0))
+    × (j ≤ count)
+    × ((i : ℕ) → i < j → sectionAt rows i ≤ c)
 
 abbrev μ-consequents : tie.MeasureT-consequents
-μ-consequents run rows count k positions₀ faults₀ c₀ positions faults c = k - c
+μ-consequents run rows first count k positions₀ faults₀ c₀ j₀ positions faults c j = k - c
 
 -- what the inner loop was broken with
 row-is : (c : tie.Joined1 Inv-rows μ-rows Inv-consequents μ-consequents) →
@@ -78,11 +81,17 @@ consequents-holds : tie.Need-consequents-holds Inv-rows μ-rows Inv-consequents 
 consequents-holds c =
     let a = c .args in
     let z = c .pre .3 in
-    (search needs, ap length z, kept-all (tagsOf (a .rows .now) (a .count)) (a .positions .now), rw (sub-zero, z) refl)
+    (search needs, ap length z, kept-all (tagsOf (a .rows .now) (a .count)) (a .positions .now), rw (sub-zero, z) refl, c .pre .4, λ i h. omega (arith, c .pre .5 i h))
 
 rows-holds : tie.Need-rows-holds Inv-rows μ-rows Inv-consequents μ-consequents
-unfolding tagsOf
-rows-holds c = let a = c .before .before .args in (search needs, kept-all (tagsOf (a .rows .now) (a .count)) (c .before .consequents .positions), rw sub-zero)
+rows-holds c =
+    let at = c .before in
+    let a = at .before .args in
+    let v = at .consequents in (
+      v .inv .4,
+      kept-all (tagsOf (a .rows .now) (a .count)) (v .positions),
+      passed-over (runHeld (a .run .now)) (a .rows .now) (a .count) (v .c + 1) (v .positions) (v .j) (v .inv .4) (λ i h e. omega (arith, v .inv .5 i h, e)),
+    )
 
 rows-again : tie.Need-rows-again Inv-rows μ-rows Inv-consequents μ-consequents
 rows-again c =
@@ -122,11 +131,16 @@ returns c =
     let e = sym (sym (at .consequents .inv .3) ∙ faults-none _ _ _ (at .consequents .c) _ _ (search needs) (sym (row-is (c .before)) ∙ c .if4 .taken)) in
     (ap (λ (z : Faults). z .met) e, (λ z. absurd (omega (arith, z)), env-is (c .before)))
 
+-- the row that cannot be met is of this consequent, so that none before it is of a later one
 consequents-again : tie.Need-consequents-again Inv-rows μ-rows Inv-consequents μ-consequents
 consequents-again c =
     let at = c .before .before .before .before in
     let row = c .before in
-    (search needs, simp length-set (search needs), env-is row, sym (faults-on _ _ _ (at .consequents .c) _ _ (search needs) (row .if1 .row) (sym (row-is row)) (c .if4 .left)) ∙ at .consequents .inv .3)
+    let s = at .before in
+    let r = c .before .before .rows in
+    let behind : (i : ℕ) → i < r .j → sectionAt (s .args .rows .now) i ≤ at .consequents .c + 1 = λ i h.
+    ⊎-elim (λ v. absurd (c .if4 .left (v .2))) (λ v. omega (arith, sections-rise (s .args .rows .now) (s .args .count) (s .args .k) (s .pre .1) i (r .j) h (v .0 .left), v .2 .ensures, v .3 .left)) (row .if1 .came) in
+    (search needs, simp length-set (search needs), env-is row, sym (faults-on _ _ _ (at .consequents .c) _ _ (search needs) (row .if1 .row) (sym (row-is row)) (c .if4 .left)) ∙ at .consequents .inv .3, c .before .before .rows .inv .0, behind)
 
 returns-2 : tie.Need-returns-2 Inv-rows μ-rows Inv-consequents μ-consequents
 returns-2 c =

@@ -24,10 +24,10 @@ use Rattle.verdict.proofs.first_violation.Statement.{statement}
 use Rattle.verdict.proofs.first_violation.Tie as tie
 
 abbrev Inv-loop : tie.InvT-loop
-Inv-loop run rows count k plan reaches positions₀ positions = Turning (runHeld run) (sheetAt rows count k) (line-count run) rows plan positions
+Inv-loop run rows count k plan reaches first positions₀ positions = Turning (runHeld run) (sheetAt rows count k) (line-count run) rows plan positions
 
 abbrev μ-loop : tie.MeasureT-loop
-μ-loop run rows count k plan reaches positions₀ positions = still (length (part (eventsIn run) (line-count run))) (length (points (rowsOf rows (row-count plan)))) (map (by positions) (points (rowsOf rows (row-count plan))))
+μ-loop run rows count k plan reaches first positions₀ positions = still (length (part (eventsIn run) (line-count run))) (length (points (rowsOf rows (row-count plan)))) (map (by positions) (points (rowsOf rows (row-count plan))))
 
 -- What is in memory
 module _ (s : tie.Start Inv-loop μ-loop) where
@@ -67,13 +67,13 @@ module _ (s : tie.Start Inv-loop μ-loop) where
 returns : tie.Need-returns Inv-loop μ-loop
 returns c =
     let x = c .before .before in
-    let m = x .before .before in
+    let m = x .before .before .before in
     c .unviolated .ensures ∙ none-at-all (held m) (H m) (rows m) (count m) (k m) (S m) (plan m) (P m) (sym (not-true _ (c .before .if1 .taken)) ∙ x .first .ensures .0)
 
 loop-holds : tie.Need-loop-holds Inv-loop μ-loop
 loop-holds c =
     let x = c .before in
-    let m = x .before .before in
+    let m = x .before .before .before in
     begins (held m) (H m) (rows m) (count m) (k m) (S m) (plan m) (P m) (x .first .last .1 .1 .1 .0) (x .first .ensures .1 (not-false _ (c .if1 .left)))
 
 -- A turn, once the walk over the consequents is done
@@ -82,11 +82,11 @@ module _ (w : tie.After-at-fault Inv-loop μ-loop) where
   l = w .before .before .before
 
   abbrev m : tie.Start Inv-loop μ-loop
-  m = l .before .before .before .before
+  m = l .before .before .before .before .before
 
   -- the positions that it leaves
   abbrev left : List ℕ
-  left = w .at-fault .last .1 .1 .1 .1 .0
+  left = w .at-fault .last .1 .1 .1 .1 .1 .0
 
   still-there : Standing (runHeld (held m)) (line-count (held m)) (rows m) (plan m) left
   still-there = walked (held m) (H m) (rows m) (count m) (k m) (S m) (plan m) (P m) (l .loop .positions) (l .loop .inv) left (w .at-fault .ensures .1 .1)
@@ -153,11 +153,12 @@ first-violation-spec =
     (tie.spec
     Inv-loop
     μ-loop
-    (λ c κs. let s = c .before in (H s, P s .drawn, P s .few, P s .pattern, refl))
+    (λ c κs. search needs)
+    (λ c κs. let s = c .before .before in (H s, P s .drawn, P s .few, P s .pattern, refl))
     (λ c κs. search needs)
     returns
     loop-holds
-    (λ c κs. let a = c .before .before .before .before .before .before in (H a, S a, c .before .before .loop .inv .stands .fixed .size, refl))
+    (λ c κs. let q = c .before .before .before .before .before .before in let a = q .before in let e = q .row-count .ensures in (H a, S a, c .before .before .loop .inv .stands .fixed .size, refl, omega (arith, e, P a .within), λ i h. P a .own i (omega (arith, e))))
     violated-by-requires
     returns-2
     (λ c. search needs)
