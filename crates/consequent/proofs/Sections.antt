@@ -6,14 +6,13 @@ use Prim.Native.Nat.{ℕ, zero, suc, _+_, _-_, _≤_, _<_}
 use native.Mathlib.Nat.{sub-zero}
 use native.Mathlib.Numerals.{add-one}
 use native.Mathlib.Omega.{arith}
-use lib.ListN.{length}
 use Rattle.scenario.specs.Rows.{Row, Run}
 use Rattle.scenario.specs.Fields.{Tagged, tag, tagged}
 use Rattle.scenario.proofs.Base.{Order, lower, level, upper, order}
 use Rattle.row.specs.Memory.{sectionAt, listed, tagAt, tagsOf}
 use Rattle.sheet.specs.Held.{sheetAt, SheetHeld}
 use Rattle.consequent.specs.Walk.{faultIn}
-use Rattle.consequent.proofs.Advancing.{rest, fault-other}
+use Rattle.consequent.proofs.Advancing.{fault-other}
 
 -- from section b on, none below the one before it
 abbrev Rises : ℕ → List Tagged → Type 0

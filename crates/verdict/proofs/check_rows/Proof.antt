@@ -1,5 +1,5 @@
 -- The plan is drawn up for the antecedent's rows, and the run stays the same; then `first_violation` answers.
-use mathlib.Core.Path.{_≡_, _∙_, ap}
+use mathlib.Core.Path.{_∙_, ap}
 use mathlib.Core.List.{List}
 use Prim.Native.Nat.{ℕ}
 use native.Mathlib.Omega.{arith}

@@ -1,5 +1,5 @@
 -- From matching to matching, the smallest violating placement at or after where the loop stands is the smallest of all. The laws are in Loop; here they are held against the code, place by place.
-use mathlib.Core.Path.{_≡_, refl, sym, ap, _∙_}
+use mathlib.Core.Path.{refl, sym, ap, _∙_}
 use mathlib.Core.List.{List, map}
 use Prim.Native.Nat.{ℕ, _≤_, _<_}
 use native.Mathlib.Omega.{arith}
