@@ -63,6 +63,15 @@ uint32_t satskhubo_write(const uint8_t *sheet, size_t sheet_len, uint64_t number
                          size_t *length);
 
 /*
+ * Says whether antiscenario `number` is impossible: its rows contradict each other, and it has no matching on any log. 0:
+ * *impossible is true where the sets of its POINT, NEXT, LAST and EVENT rows for one point have no event in common, where an APART
+ * row lies inside one point, or where its BEFORE, NEXT and LAST rows, read as "lower than", lead from a point back to itself, points
+ * joined by SAME rows being one; else it is false, which does not promise that some log has a matching. 31: the number is not in 1
+ * to N. Refused: *impossible is unchanged.
+ */
+uint32_t satskhubo_impossible(const uint8_t *sheet, size_t sheet_len, uint64_t number, bool *impossible);
+
+/*
  * Searches for the smallest matching of antiscenario `number`. 0 and *found true: its positions stand at the front of the
  * places, in order of introduction, and the places after them are as they were. 0 and *found false: it has no matching, and the
  * places are unchanged. 31: the number is not in 1 to N. 33: fewer places than points. Refused: places and *found are unchanged.

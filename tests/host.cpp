@@ -18,7 +18,7 @@ int main(int argc, char **argv) {
     uint32_t lines = 0, points = 0, consequents = 0, positions[4] = {}, rows[6] = {}, value = 0;
     uint64_t count = 0, looked = 0, after = 0;
     size_t length = 0, offset = 0;
-    bool met = false, found = false, of_log = false;
+    bool met = false, found = false, impossible = false, of_log = false;
     uint8_t text[SATSKHUBO_MOST_TEXT];
     satskhubo_placement placement = {};
 
@@ -33,6 +33,8 @@ int main(int argc, char **argv) {
     std::printf("check_limited %u %llu %llu\n", answer, static_cast<unsigned long long>(looked), static_cast<unsigned long long>(after));
     answer = satskhubo_write(sheet.data(), sheet.size(), 2, text, sizeof text, &length);
     std::printf("write %u %zu\n", answer, length);
+    answer = satskhubo_impossible(sheet.data(), sheet.size(), 4, &impossible);
+    std::printf("impossible %u %d\n", answer, impossible);
     answer = satskhubo_search(sheet.data(), sheet.size(), log.data(), log.size(), 2, placement.positions, SATSKHUBO_MOST_POINTS, &found);
     std::printf("search %u %d %u %u\n", answer, found, placement.positions[0], placement.positions[1]);
     placement.count = 2;

@@ -21,7 +21,7 @@ const COMMANDS: [(&str, Command); 4] = [
     ("explain", Command::Explain),
 ];
 
-const OPTIONS: [&str; 7] = ["--plain", "--json", "--events", "--number", "--limit", "--help", "--version"];
+const OPTIONS: [&str; 8] = ["--plain", "--json", "--events", "--number", "--limit", "--possible", "--help", "--version"];
 
 #[derive(Clone, Copy, Debug, PartialEq, Eq)]
 pub enum Form {
@@ -40,6 +40,8 @@ pub struct Asked {
     pub numbers: Option<RangeInclusive<u64>>,
     /// How many of the antecedent's matchings the check looks at, at most; none for all.
     pub limit: Option<u64>,
+    /// Antiscenarios that no run can meet are left out.
+    pub possible: bool,
     pub sheet: Name,
     pub logs: Vec<Name>,
 }
@@ -56,6 +58,7 @@ pub enum Request {
 struct Sorted {
     plain: bool,
     json: bool,
+    possible: bool,
     events: Option<OsString>,
     number: Option<OsString>,
     limit: Option<OsString>,
@@ -138,6 +141,7 @@ impl Sorted {
             "--limit" => return keep(&mut self.limit, &name, value.or_else(|| rest.next().map(OsString::as_os_str))),
             "--plain" => self.plain = true,
             "--json" => self.json = true,
+            "--possible" => self.possible = true,
             "--help" => self.request = Some(Request::Help(Some(command))),
             "--version" => self.request = Some(Request::Version),
             negative if negative[1..].bytes().all(|byte| byte.is_ascii_digit()) => {
@@ -205,6 +209,9 @@ fn limit_of(command: Command, by_option: Option<OsString>) -> Result<Option<u64>
 fn settled(command: Command, sorted: Sorted) -> Result<Asked, String> {
     let form = form_of(command, &sorted)?;
     let limit = limit_of(command, sorted.limit)?;
+    if sorted.possible && command != Command::Antiscenarios {
+        return Err("--possible is for antiscenarios".to_string());
+    }
     let mut names = sorted.names.into_iter();
     let Some(sheet) = names.next() else {
         return Err("a sheet is missing".to_string());
@@ -228,6 +235,7 @@ fn settled(command: Command, sorted: Sorted) -> Result<Asked, String> {
         events: sorted.events.map(|name| Name::new(&name)),
         numbers,
         limit,
+        possible: sorted.possible,
         sheet: Name::new(&sheet),
         logs: rest.iter().map(|name| Name::new(name)).collect(),
     };

@@ -17,6 +17,7 @@ Options stand behind the command:
     --json           JSON, one object a line
     --events FILE    names of events 0 to 63, a line each: 3 scan (else the file `events` beside the sheet, if there is one)
     --number M       of the antiscenario; FIRST-LAST for some of them
+    --possible       antiscenarios without those that no run can meet
     --limit L        the check looks at L matchings of the antecedent, at most, and says that it stopped if there are more
     --               ends the options, for names that begin with a dash
 Exit status: 0 all hold, or nothing is found; 1 some are violated, or found; 2 something is refused, not read or failed;
@@ -43,12 +44,17 @@ and 3 before 1.
 ";
 
 const ANTISCENARIOS: &str = "\
-satskhubo antiscenarios SHEET [NUMBER | FIRST-LAST] [--plain | --json] [--events FILE]
+satskhubo antiscenarios SHEET [NUMBER | FIRST-LAST] [--possible] [--plain | --json] [--events FILE]
 
 The antiscenarios of the sheet, or the one of that number, or those from FIRST to LAST: the antecedent, and for each consequent
 one way in which it fails. A sheet has up to 12,230,590,464. Without numbers 4,096 are listed, and then how many there are.
---plain: the texts as document 01 has them, one after the other. --json: an object each: number, of, rows, text. Both give all or,
-where there are over 4,096 and no numbers are given, none.
+One that no run can meet is marked, with the rows of it that contradict each other: the sets of one line have no event in common,
+two points are different lines and the same line, or a point would stand before itself. One that is not marked may still be in no
+log, for other reasons.
+--possible: those that no run can meet are left out, and the others keep their numbers.
+--plain: the texts as document 01 has them, one after the other. --json: an object each: number, of, rows, text, impossible; where
+that is true also why: rule (no-common-event, apart-inside, circular), rows (their numbers in this antiscenario, from 1), words.
+Both give all or, where there are over 4,096 and no numbers are given, none.
 Exit status: 0 done; 2 refused, not read or failed.
 ";
 
@@ -58,9 +64,10 @@ satskhubo search SHEET LOG.. [--number M | --number FIRST-LAST] [--plain | --jso
 Where the antiscenarios are found in each log, or the one of that number, or those from FIRST to LAST: a line for each of its
 points, with the row of the antiscenario that introduces the point. The check is asked first: where it says that the log keeps
 the rule, none is found, which is proved, and none is searched. Else they are searched in order, and each that is found is
-written at once, so that Ctrl-C leaves what was found until then.
+written at once, so that Ctrl-C leaves what was found until then. Those that no run can meet are passed over, since it is proved that
+they are in no log, and are counted in the last line of each log.
 --plain: a line a number: refusal (3 columns), number (11), found (3), positions (5 each). --json: an object a number: file,
-sheet, number, found, points, positions, lines, ticks, events. Where there are over 4,096 both need numbers.
+sheet, number, found, points, positions, lines, ticks, events, impossible. Where there are over 4,096 both need numbers.
 Exit status: 0 nothing is found; 1 something is found; 2 something is refused, not read or failed.
 ";
 

@@ -27,6 +27,10 @@ impl Object {
         self.raw(key, &value.to_string())
     }
 
+    pub fn flag(self, key: &str, value: bool) -> Object {
+        self.raw(key, if value { "true" } else { "false" })
+    }
+
     /// The text, or null.
     pub fn optional(self, key: &str, value: Option<&str>) -> Object {
         self.raw(key, &value.map_or("null".to_string(), string))

@@ -1,8 +1,9 @@
 //! satskhubo search: where the antiscenarios of a sheet are found in each log.
 use crate::arguments::{Asked, Command, Form};
 use crate::check::{failed, refused, unreadable};
+use crate::impossible::{of_them, passed_over, Impossible};
 use crate::input::{read, Input};
-use crate::json::numbers as json_numbers;
+use crate::json::{numbers as json_numbers, Object};
 use crate::log::Log;
 use crate::logs::{Listed, Logs};
 use crate::names::Name;
@@ -32,7 +33,7 @@ pub fn run(asked: &Asked, output: &mut Output) -> i32 {
         return FAILED;
     }
     let logs = Logs::of(&asked.logs, &opened.left_out());
-    let task = Task { opened, form: asked.form, is_one: logs.is_one(), numbers };
+    let task = Task { opened, form: asked.form, is_one: logs.is_one(), numbers, impossible: Impossible::new(numbers) };
     match logs.listed.len() == 1 || numbers.total() > MOST_UNASKED {
         true => task.run_in_turn(&logs, output),
         false => task.run_at_once(&logs, output),
@@ -44,6 +45,7 @@ struct Task {
     form: Form,
     is_one: bool,
     numbers: Numbers,
+    impossible: Impossible,
 }
 
 /// A log to search in, read and accepted.
@@ -55,7 +57,32 @@ struct Readied {
 /// What is said of one number.
 struct Part {
     text: String,
-    is_found: bool,
+    outcome: Outcome,
+}
+
+enum Outcome {
+    /// The smallest matching.
+    Found(Vec<u32>),
+    NotFound,
+    /// No run can meet it, which is proved, so that it is not searched.
+    Impossible,
+}
+
+/// How many numbers came out so.
+#[derive(Clone, Copy, Default)]
+struct Counts {
+    found: u64,
+    impossible: u64,
+}
+
+impl Counts {
+    fn add(&mut self, outcome: &Outcome) {
+        match outcome {
+            Outcome::Found(_) => self.found += 1,
+            Outcome::NotFound => {}
+            Outcome::Impossible => self.impossible += 1,
+        }
+    }
 }
 
 impl Task {
@@ -101,20 +128,20 @@ impl Task {
         match self.are_none(&readied) {
             Ok(false) => {}
             Ok(true) => {
-                let said = self.say_none(&readied, &mut |text| output.say(text));
-                return self.ended(&readied, said.map(|()| 0));
+                let counts = self.say_none(&readied, &mut |text| output.say(text));
+                return self.ended(&readied, counts);
             }
             Err(failure) => return self.failed(&readied.input.name, failure),
         }
-        let mut parts = Parts { output, progress, searched: 0, found: 0, failure: None };
+        let mut parts = Parts { output, progress, gone_through: 0, counts: Counts::default(), failure: None };
         let work = |index| {
             let part = self.part(&readied, self.numbers.first + index);
             progress.step();
             part
         };
         in_order(self.numbers.total(), work, &mut parts);
-        let found = parts.end(self.numbers.total());
-        self.ended(&readied, found)
+        let counts = parts.end(self.numbers.total()).and_then(|counts| self.some_are_found(counts));
+        self.ended(&readied, counts)
     }
 
     /// Several logs, on all cores: the numbers of each one after the other.
@@ -143,23 +170,30 @@ impl Task {
 
     fn reply(&self, readied: &Readied) -> Reply {
         let mut said = String::new();
-        let found = self.say_parts(readied, &mut said);
-        let reply = self.ended(readied, found);
+        let counts = self.say_parts(readied, &mut said);
+        let reply = self.ended(readied, counts);
         Reply { text: said + &reply.text, ..reply }
     }
 
-    /// How many of the numbers are found.
-    fn say_parts(&self, readied: &Readied, said: &mut String) -> Answer<u64> {
+    fn say_parts(&self, readied: &Readied, said: &mut String) -> Answer<Counts> {
         if self.are_none(readied)? {
-            return self.say_none(readied, &mut |text| said.push_str(text)).map(|()| 0);
+            return self.say_none(readied, &mut |text| said.push_str(text));
         }
-        let mut found = 0;
+        let mut counts = Counts::default();
         for number in self.numbers.each() {
             let part = self.part(readied, number)?;
             said.push_str(&part.text);
-            found += u64::from(part.is_found);
+            counts.add(&part.outcome);
         }
-        Ok(found)
+        self.some_are_found(counts)
+    }
+
+    /// Demand 3: where the check has said that the sheet is violated, one of all antiscenarios is found, and it was not passed over.
+    fn some_are_found(&self, counts: Counts) -> Answer<Counts> {
+        match self.numbers.are_all && self.numbers.total() > 1 && counts.found == 0 {
+            true => Err(Failure("the check says that the rule is broken, and no antiscenario is found".to_string())),
+            false => Ok(counts),
+        }
     }
 
     /// Demand 3: where the sheet holds, none of its antiscenarios has a matching. One number is searched sooner than the check is made.
@@ -174,58 +208,89 @@ impl Task {
         }
     }
 
-    /// What is said of each number where none is found; in words nothing.
-    fn say_none(&self, readied: &Readied, say: &mut impl FnMut(&str)) -> Answer<()> {
+    /// What is said of each number where none is found; in words nothing, and those that no run can meet are counted where they are few.
+    fn say_none(&self, readied: &Readied, say: &mut impl FnMut(&str)) -> Answer<Counts> {
         if self.form == Form::Words {
-            return Ok(());
+            return Ok(Counts { found: 0, impossible: self.impossible.count_few(&self.opened)? });
         }
-        self.numbers.each().try_for_each(|number| {
-            say(&self.said(readied, number, None)?);
-            Ok(())
-        })
+        for number in self.numbers.each() {
+            let outcome = self.unsearched(number)?;
+            say(&self.said(readied, number, &outcome)?);
+        }
+        Ok(Counts::default())
     }
 
-    /// The reply behind the last number, of which so many are found.
-    fn ended(&self, readied: &Readied, found: Answer<u64>) -> Reply {
-        match found {
+    /// Where none is found. Columns do not tell which of them no run can meet.
+    fn unsearched(&self, number: u64) -> Answer<Outcome> {
+        match self.form == Form::Json && self.impossible.has(&self.opened, number)? {
+            true => Ok(Outcome::Impossible),
+            false => Ok(Outcome::NotFound),
+        }
+    }
+
+    /// The reply behind the last number, where so many came out so.
+    fn ended(&self, readied: &Readied, counts: Answer<Counts>) -> Reply {
+        match counts {
             Err(failure) => self.failed(&readied.input.name, failure),
-            Ok(found) => {
-                let standing = if found > 0 { Standing::Found } else { Standing::Clear };
-                Reply::new(standing, self.last_line(readied, found))
+            Ok(counts) => {
+                let standing = if counts.found > 0 { Standing::Found } else { Standing::Clear };
+                Reply::new(standing, self.last_line(readied, counts))
             }
         }
     }
 
-    fn last_line(&self, readied: &Readied, found: u64) -> String {
+    fn last_line(&self, readied: &Readied, Counts { found, impossible }: Counts) -> String {
         let Numbers { first, last, are_all } = self.numbers;
         let (total, log) = (self.numbers.total(), readied.input.name.words());
+        let (of_them, passed_over) = (of_them(impossible, total), passed_over(impossible));
         match (self.form, are_all) {
             (Form::Plain | Form::Json, _) => String::new(),
-            (Form::Words, true) if found == 0 => format!("none of the {} is found in {log}\n", count(total, "antiscenario")),
-            (Form::Words, true) => format!("{found} of {total} antiscenarios found in {log}\n"),
+            (Form::Words, true) if found == 0 => {
+                format!("none of the {} is found in {log}{of_them}\n", count(total, "antiscenario"))
+            }
+            (Form::Words, true) => format!("{found} of {total} antiscenarios found in {log}{passed_over}\n"),
+            (Form::Words, false) if found == 0 && first == last && impossible == 1 => {
+                format!("antiscenario {first} is not found in {log}: no run can meet it\n")
+            }
             (Form::Words, false) if found == 0 && first == last => format!("antiscenario {first} is not found in {log}\n"),
             (Form::Words, false) if first == last => String::new(),
-            (Form::Words, false) if found == 0 => format!("none of the antiscenarios {first} to {last} is found in {log}\n"),
-            (Form::Words, false) => format!("{found} of the antiscenarios {first} to {last} found in {log}\n"),
+            (Form::Words, false) if found == 0 => {
+                format!("none of the antiscenarios {first} to {last} is found in {log}{of_them}\n")
+            }
+            (Form::Words, false) => format!("{found} of the antiscenarios {first} to {last} found in {log}{passed_over}\n"),
         }
     }
 
     fn part(&self, readied: &Readied, number: u64) -> Answer<Part> {
-        let matching = match search(&self.opened.input.bytes, &readied.input.bytes, number)? {
-            Searched::Found(positions) => Some(positions),
-            Searched::None => None,
-            Searched::Refused(refusal) => {
-                return Err(Failure(format!("searching antiscenario {number} is refused {}", refusal.number())));
-            }
-        };
-        Ok(Part { text: self.said(readied, number, matching.as_deref())?, is_found: matching.is_some() })
+        let outcome = self.outcome(readied, number)?;
+        Ok(Part { text: self.said(readied, number, &outcome)?, outcome })
     }
 
-    fn said(&self, readied: &Readied, number: u64, matching: Option<&[u32]>) -> Answer<String> {
+    fn outcome(&self, readied: &Readied, number: u64) -> Answer<Outcome> {
+        if self.impossible.has(&self.opened, number)? {
+            return Ok(Outcome::Impossible);
+        }
+        match search(&self.opened.input.bytes, &readied.input.bytes, number)? {
+            Searched::Found(positions) => Ok(Outcome::Found(positions)),
+            Searched::None => Ok(Outcome::NotFound),
+            Searched::Refused(refusal) => {
+                Err(Failure(format!("searching antiscenario {number} is refused {}", refusal.number())))
+            }
+        }
+    }
+
+    fn said(&self, readied: &Readied, number: u64, outcome: &Outcome) -> Answer<String> {
+        let matching = match outcome {
+            Outcome::Found(positions) => Some(&positions[..]),
+            Outcome::NotFound | Outcome::Impossible => None,
+        };
         match self.form {
             Form::Plain => Ok(plain(number, matching)),
             Form::Words => self.in_words(readied, number, matching),
-            Form::Json => self.object(readied, number, matching),
+            Form::Json => {
+                let object = self.object(readied, number, matching)?;
+                Ok(object.flag("impossible", matches!(outcome, Outcome::Impossible)).end() + "\n")
+            }
         }
     }
 
@@ -250,16 +315,16 @@ impl Task {
         Ok(said)
     }
 
-    fn object(&self, readied: &Readied, number: u64, matching: Option<&[u32]>) -> Answer<String> {
+    fn object(&self, readied: &Readied, number: u64, matching: Option<&[u32]>) -> Answer<Object> {
         let positions = matching.unwrap_or_default();
         let points = match matching {
             Some(positions) => self.introducing(number, positions)?,
             None => Vec::new(),
         };
         let object = named(Some(&readied.input.name), &self.opened.input.name).number("number", number);
-        let object = object.raw("found", if matching.is_some() { "true" } else { "false" });
+        let object = object.flag("found", matching.is_some());
         let object = object.raw("points", &json_numbers(points.iter().map(|(_, row)| row.p)));
-        Ok(in_object(object, &placed(&readied.log, positions)?).end() + "\n")
+        Ok(in_object(object, &placed(&readied.log, positions)?))
     }
 }
 
@@ -286,19 +351,21 @@ fn summary(tally: &Tally) -> String {
 struct Parts<'a> {
     output: &'a mut Output,
     progress: &'a Progress,
-    searched: u64,
-    found: u64,
+    gone_through: u64,
+    counts: Counts,
     /// The first.
     failure: Option<Failure>,
 }
 
 impl Parts<'_> {
-    /// How many of so many numbers are found.
-    fn end(self, total: u64) -> Answer<u64> {
+    /// Of so many numbers.
+    fn end(self, total: u64) -> Answer<Counts> {
         match self.failure {
             Some(failure) => Err(failure),
-            None if self.searched != total => Err(Failure(format!("{} of {total} numbers were searched", self.searched))),
-            None => Ok(self.found),
+            None if self.gone_through != total => {
+                Err(Failure(format!("{} of {total} numbers were gone through", self.gone_through)))
+            }
+            None => Ok(self.counts),
         }
     }
 }
@@ -307,16 +374,16 @@ impl Taker<Answer<Part>> for Parts<'_> {
     /// What is found is written at once, so that it stands there when the search is ended.
     fn take(&mut self, part: Answer<Part>) {
         match part {
-            Ok(Part { text, is_found }) => {
+            Ok(Part { text, outcome }) => {
                 if !text.is_empty() {
                     self.progress.wipe();
                     self.output.say(&text);
                 }
-                if is_found {
+                if matches!(outcome, Outcome::Found(_)) {
                     self.output.flush();
                 }
-                self.searched += 1;
-                self.found += u64::from(is_found);
+                self.gone_through += 1;
+                self.counts.add(&outcome);
             }
             Err(failure) => {
                 self.failure.get_or_insert(failure);

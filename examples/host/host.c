@@ -60,18 +60,25 @@ static uint32_t search_one(const uint8_t *sheet, size_t sheet_len, const uint8_t
     return 0;
 }
 
-/* A sheet has up to 12,230,590,464 antiscenarios; so many are searched here. */
+/* A sheet has up to 12,230,590,464 antiscenarios; so many are looked at here. */
 #define MOST_SEARCHED 4096
 
-/* The antiscenarios from 1 on. Gives the first refusal, or 0. */
+/* The antiscenarios from 1 on, but for those that no log can match. Gives the first refusal, or 0. */
 static uint32_t search_all(const uint8_t *sheet, size_t sheet_len, const uint8_t *log, size_t log_len) {
-    uint64_t count = 0;
+    uint64_t count = 0, impossible_count = 0;
     uint32_t answer = satskhubo_read_sheet(sheet, sheet_len, &count);
     uint64_t last = count < MOST_SEARCHED ? count : MOST_SEARCHED;
-    for (uint64_t number = 1; answer == 0 && number <= last; number++)
-        answer = search_one(sheet, sheet_len, log, log_len, number);
+    for (uint64_t number = 1; answer == 0 && number <= last; number++) {
+        bool impossible = false;
+        answer = satskhubo_impossible(sheet, sheet_len, number, &impossible);
+        impossible_count += impossible;
+        if (answer == 0 && !impossible)
+            answer = search_one(sheet, sheet_len, log, log_len, number);
+    }
+    if (answer == 0 && impossible_count > 0)
+        printf("impossible, not searched: %llu\n", (unsigned long long)impossible_count);
     if (answer == 0 && last < count)
-        printf("searched: %llu of %llu antiscenarios\n", (unsigned long long)last, (unsigned long long)count);
+        printf("searched: %llu of %llu antiscenarios\n", (unsigned long long)(last - impossible_count), (unsigned long long)count);
     return answer;
 }
 

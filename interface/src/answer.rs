@@ -139,6 +139,16 @@ pub enum Written {
     Refused(Refusal),
 }
 
+/// Document 02, A6: whether the rows of an antiscenario contradict each other.
+#[derive(Clone, Debug, PartialEq, Eq)]
+pub enum Ruled {
+    /// No run can meet it.
+    Impossible,
+    /// None of the three rules tells that no run can meet it.
+    Possible,
+    Refused(Refusal),
+}
+
 #[derive(Clone, Debug, PartialEq, Eq)]
 pub enum Searched {
     /// The smallest matching, in order of introduction.
@@ -262,6 +272,16 @@ pub fn write(sheet: &[u8], number: u64) -> Answer<Written> {
         }
         DONE => Err(Failure(format!("{CALL} says {length} bytes where {MOST_TEXT} were lent"))),
         refused => Ok(Written::Refused(refusal(CALL, refused)?)),
+    }
+}
+
+pub fn impossible(sheet: &[u8], number: u64) -> Answer<Ruled> {
+    const CALL: &str = "satskhubo_impossible";
+    let mut is_impossible = u8::MAX;
+    match lent::impossible(sheet, number, &mut is_impossible) {
+        DONE if yes_or_no(CALL, is_impossible)? => Ok(Ruled::Impossible),
+        DONE => Ok(Ruled::Possible),
+        refused => Ok(Ruled::Refused(refusal(CALL, refused)?)),
     }
 }
 

@@ -23,6 +23,11 @@ pub fn write(sheet: &[u8], number: u64, buffer: &mut [u8], length: &mut usize) -
     unsafe { satskhubo_write(sheet.as_ptr(), sheet.len(), number, buffer.as_mut_ptr(), buffer.len(), length) }
 }
 
+pub fn impossible(sheet: &[u8], number: u64, impossible: &mut u8) -> u32 {
+    let impossible = (impossible as *mut u8).cast::<bool>();
+    unsafe { satskhubo_impossible(sheet.as_ptr(), sheet.len(), number, impossible) }
+}
+
 pub fn search(sheet: &[u8], log: &[u8], number: u64, places: &mut [u32], found: &mut u8) -> u32 {
     let found = (found as *mut u8).cast::<bool>();
     let (front, room) = (places.as_mut_ptr(), places.len());

@@ -41,6 +41,7 @@ extern "C" {
         buffer_len: usize,
         length: *mut usize,
     ) -> u32;
+    fn satskhubo_impossible(sheet: *const u8, sheet_len: usize, number: u64, impossible: *mut bool) -> u32;
     fn satskhubo_search(
         sheet: *const u8,
         sheet_len: usize,

@@ -3,6 +3,7 @@ use crate::outcome::*;
 use crate::reference::blunder::Blunder;
 use crate::reference::limited::Limited;
 use crate::reference::operations::{open, Opened, Verdict};
+use crate::reference::refusal::Refusal;
 
 pub const HOLDS: u32 = 0;
 pub const VIOLATED: u32 = 100;
@@ -39,6 +40,13 @@ impl Opened {
                 Written { answer: 0, buffer, length: text.len() }
             }
             Err(refusal) => Written { answer: refusal.number(), buffer, length: PATTERN_SIZE },
+        }
+    }
+
+    pub fn ruled(&self, number: u64) -> Ruled {
+        match self.impossible(number) {
+            Ok(impossible) => Ruled { answer: 0, impossible: impossible.into() },
+            Err(refusal) => Ruled { answer: refusal.number(), impossible: PATTERN },
         }
     }
 
@@ -113,6 +121,15 @@ impl Side for Blundering {
     }
     fn write(&self, sheet: &[u8], number: u64, room: usize) -> Written {
         open(sheet, b"", self.0).written(number, room)
+    }
+    fn impossible(&self, sheet: &[u8], number: u64) -> Ruled {
+        let ruled = open(sheet, b"", self.0).ruled(number);
+        match self.0 {
+            Blunder::ZeroBeforeSheet if number == 0 => Ruled { answer: Refusal::Number.number(), ..ruled },
+            Blunder::WrittenThoughRefused if ruled.answer != 0 => Ruled { impossible: 0, ..ruled },
+            Blunder::PossibleUnwritten if ruled.impossible == 0 => Ruled { impossible: PATTERN, ..ruled },
+            _ => ruled,
+        }
     }
     fn search(&self, sheet: &[u8], log: &[u8], number: u64, places: usize) -> Searched {
         open(sheet, log, self.0).searched(number, places)

@@ -48,6 +48,12 @@ impl Side for Host {
         Written { answer, buffer, length }
     }
 
+    fn impossible(&self, sheet: &[u8], number: u64) -> Ruled {
+        let mut impossible = PATTERN;
+        let answer = lent::impossible(sheet, number, &mut impossible);
+        Ruled { answer, impossible }
+    }
+
     fn search(&self, sheet: &[u8], log: &[u8], number: u64, places: usize) -> Searched {
         let mut lent = guarded(places, PATTERN_WORD);
         let mut found = PATTERN;

@@ -52,6 +52,13 @@ pub struct Written {
     pub length: usize,
 }
 
+/// Document 02, A6.
+#[derive(Debug, PartialEq, Eq)]
+pub struct Ruled {
+    pub answer: u32,
+    pub impossible: u8,
+}
+
 #[derive(Debug, PartialEq, Eq)]
 pub struct Searched {
     pub answer: u32,
@@ -126,6 +133,7 @@ pub trait Side {
     fn read_sheet(&self, sheet: &[u8]) -> SheetRead;
     fn judge(&self, sheet: &[u8], log: &[u8], number: u64, table: &Table) -> Judged;
     fn write(&self, sheet: &[u8], number: u64, room: usize) -> Written;
+    fn impossible(&self, sheet: &[u8], number: u64) -> Ruled;
     fn search(&self, sheet: &[u8], log: &[u8], number: u64, places: usize) -> Searched;
     fn check(&self, sheet: &[u8], log: &[u8]) -> Checked;
     fn check_limited(&self, sheet: &[u8], log: &[u8], limit: u64) -> LimitedCheck;

@@ -5,12 +5,13 @@ use satskhubo_tests::compare::{compare, compare_once, Comparison, Mismatch};
 use satskhubo_tests::expected::{Blundering, VIOLATED};
 use satskhubo_tests::generate::chains::{chain_logs, chains};
 use satskhubo_tests::generate::families::{self, Family};
+use satskhubo_tests::generate::joined::joined;
 use satskhubo_tests::generate::logs::log_of;
-use satskhubo_tests::generate::pairs::{chained_pair_of, large_pair_of, pair_of};
+use satskhubo_tests::generate::pairs::{chained_pair_of, joined_pair_of, large_pair_of, pair_of};
 use satskhubo_tests::generate::sheets::{sheet_of, sheet_s};
 use satskhubo_tests::generate::Pair;
 use satskhubo_tests::outcome::Table;
-use satskhubo_tests::reference::blunder::{Blunder, IN_FAR_ENDS, IN_LIMITS};
+use satskhubo_tests::reference::blunder::{Blunder, IN_CONTRADICTIONS, IN_FAR_ENDS, IN_LIMITS, IN_RULINGS};
 use satskhubo_tests::reference::log::Log;
 use satskhubo_tests::reference::operations::open;
 use satskhubo_tests::reference::sheet::{self, kind::*, Row, CLOSE, START};
@@ -80,6 +81,22 @@ const IN_NUMBERS_ALONE: [Blunder; 5] = [
     Blunder::PassedOverUncounted,
 ];
 
+/// Document 02, A6: the slips that say impossible of a number that has a matching, which breaks what is promised. The others say it of fewer numbers.
+const IMPOSSIBLE_AND_FOUND: [Blunder; 12] = [
+    Blunder::NextTurned,
+    Blunder::LastTurned,
+    Blunder::EarlierAsOrder,
+    Blunder::LaterAsOrder,
+    Blunder::FreeAsOrder,
+    Blunder::WithinAsOrder,
+    Blunder::ApartAsOrder,
+    Blunder::FreeAsSet,
+    Blunder::EventsBelow32,
+    Blunder::WithoutSetImpossible,
+    Blunder::EndsJoined,
+    Blunder::AlwaysImpossible,
+];
+
 fn break_demand_3(name: &str, breaks: impl Fn(&mut Comparison<Blundering>) -> bool) {
     for blunder in AGAINST_DEMAND_3.into_iter().chain(IN_HALVES).chain([Blunder::OutsideAsBefore]) {
         let broken = |seed: &u64| breaks(&mut Comparison::new(&Blundering(blunder), &pair_of(*seed), *seed));
@@ -134,6 +151,30 @@ fn the_promises_of_limits_find_them() {
     }
 }
 
+/// Document 02, A6: from this side's answers alone, its searches among them.
+#[test]
+fn demand_3_over_the_possible_numbers_finds_them() {
+    for blunder in IMPOSSIBLE_AND_FOUND {
+        let breaks = |seed: &u64| Comparison::new(&Blundering(blunder), &joined_pair_of(*seed), *seed).demand_3_alone().is_err();
+        let pairs = (0..MOST_PAIRS).find(breaks).unwrap_or_else(|| panic!("{blunder:?} keeps demand 3")) + 1;
+        writeln!(std::io::stderr(), "{blunder:?} breaks demand 3 over the possible numbers at pair {pairs}").unwrap();
+    }
+}
+
+/// Document 02, A6: what demand 3 cannot find, since these say impossible of no number that is possible.
+#[test]
+fn the_other_slips_find_too_few_impossible() {
+    let texts: Vec<Vec<u8>> = (0..MOST_PAIRS / 4).map(|seed| joined_pair_of(seed).sheet).collect();
+    for blunder in IN_CONTRADICTIONS.into_iter().filter(|blunder| !IMPOSSIBLE_AND_FOUND.contains(blunder)) {
+        for text in &texts {
+            let (due, slipped) = (open(text, b"", Blunder::None), open(text, b"", blunder));
+            let count = due.read_sheet().expect("a joined sheet is accepted");
+            let is_more = |number: &u64| slipped.impossible(*number) == Ok(true) && due.impossible(*number) == Ok(false);
+            assert_eq!((1..=count.min(30)).find(is_more), None, "{blunder:?}");
+        }
+    }
+}
+
 /// Every so-many-th pair of families that the gate compares whole is enough.
 fn are_found_in(families: Vec<Family>, logs: &[Log], blunders: impl Iterator<Item = Blunder>) {
     let sheets: Vec<Vec<u8>> = families.into_iter().flat_map(|family| family.sheets).collect();
@@ -163,6 +204,21 @@ fn the_families_of_chains_find_them() {
     are_found_in(chains(), &chain_logs(), IN_FAR_ENDS.into_iter());
 }
 
+/// Document 02, A6: number by number; neither a FREE row of an antecedent nor a refused sheet is among them.
+#[test]
+fn the_joined_families_find_them() {
+    let sheets: Vec<Vec<u8>> = joined().into_iter().flat_map(|family| family.sheets).collect();
+    let needs_more = [Blunder::FreeAsOrder, Blunder::ZeroBeforeSheet];
+    for blunder in IN_CONTRADICTIONS.into_iter().chain(IN_RULINGS).filter(|blunder| !needs_more.contains(blunder)) {
+        let is_found = |sheet: &Vec<u8>| {
+            let (side, pair) = (Blundering(blunder), Pair { sheet: sheet.clone(), log: vec![] });
+            let mut comparison = Comparison::new(&side, &pair, 0);
+            comparison.rulings(500).is_err()
+        };
+        assert!(sheets.iter().any(is_found), "{blunder:?} is not found");
+    }
+}
+
 /// The larger families' chains have two antecedent points, one of the consequent, and sets of the lower half alone.
 #[test]
 fn the_larger_families_find_them() {
@@ -183,6 +239,7 @@ fn without_a_blunder_nothing_is_found() {
     assert_eq!(found_after(Blunder::None, PAIRS_WITHOUT, pair_of), None);
     assert_eq!(found_after(Blunder::None, 6, large_pair_of), None);
     assert_eq!(found_after(Blunder::None, PAIRS_WITHOUT, chained_pair_of), None);
+    assert_eq!(found_after(Blunder::None, PAIRS_WITHOUT, joined_pair_of), None);
 }
 
 #[test]
@@ -500,10 +557,126 @@ fn matchings_passed_over_not_counted() {
     is_found_with(Blunder::PassedOverUncounted, &scan(1), &[3, 3], 2);
 }
 
+/// Document 02, A6: the blunder is found among random pairs, and says otherwise whether these rows are impossible: those of an antecedent, whose number 1
+/// they are, or of antecedent and one consequent, whose last number denies its last row last.
+fn is_found_in_rows(blunder: Blunder, rows: &[Row]) {
+    assert!(IN_CONTRADICTIONS.contains(&blunder));
+    is_found_in(blunder, joined_pair_of);
+    let text = sheet::text(rows.last().map_or(0, |row| row.section), rows);
+    let last = |blunder| {
+        let opened = open(&text, b"", blunder);
+        opened.impossible(opened.read_sheet().expect("accepted"))
+    };
+    assert_eq!(last(blunder), last(Blunder::None).map(|impossible| !impossible), "{blunder:?}");
+}
+
+/// So many points of any event, and further rows of kind, p and q.
+fn any_points(count: u32, further: Brief) -> Vec<Row> {
+    let points = (1..=count).map(|p| Row::of_set(0, POINT, p, 0, u64::MAX));
+    points.chain(further.iter().map(|&(kind, p, q)| Row::new(0, kind, p, q, 0, 0))).collect()
+}
+
+/// Two points, one of the consequent, and a last row, which is denied.
+fn denied(introducing: Row, last: Row) -> Vec<Row> {
+    [&any_points(2, &[])[..], &[introducing, last]].concat()
+}
+
+fn next(q: u32) -> Row {
+    Row::of_set(1, NEXT, 11, q, u64::MAX)
+}
+
+fn last(q: u32) -> Row {
+    Row::of_set(1, LAST, 11, q, u64::MAX)
+}
+
+fn own(kind: u32, p: u32, q: u32) -> Row {
+    Row::new(1, kind, p, q, 0, 0)
+}
+
+#[test]
+fn other_orders_read_as_lower_than() {
+    // The denials of FREE have 1 and 11 about their own point: one way for NEXT, the other for LAST.
+    is_found_in_rows(Blunder::NextTurned, &denied(next(1), Row::of_set(1, FREE, 1, 11, 2)));
+    is_found_in_rows(Blunder::LastTurned, &denied(last(1), Row::of_set(1, FREE, 1, 11, 2)));
+    is_found_in_rows(Blunder::EarlierAsOrder, &denied(Row::new(1, EARLIER, 11, 1, 2, 0), own(APART, 11, 1)));
+    is_found_in_rows(Blunder::LaterAsOrder, &denied(Row::new(1, LATER, 11, 1, 2, 0), own(APART, 11, 1)));
+    let free = [&any_points(2, &[(BEFORE, 1, 2)])[..], &[Row::of_set(0, FREE, 2, 1, 2)]].concat();
+    is_found_in_rows(Blunder::FreeAsOrder, &free);
+    let within = [&any_points(2, &[(BEFORE, 1, 2)])[..], &[Row::new(0, WITHIN, 2, 1, 0, 9)]].concat();
+    is_found_in_rows(Blunder::WithinAsOrder, &within);
+    is_found_in_rows(Blunder::ApartAsOrder, &any_points(2, &[(BEFORE, 1, 2), (APART, 2, 1)]));
+}
+
+#[test]
+fn ways_back_not_found() {
+    is_found_in_rows(Blunder::OrderOfBeforeAlone, &denied(next(1), own(BEFORE, 1, 11)));
+    is_found_in_rows(Blunder::StepInsidePasses, &any_points(2, &[(SAME, 1, 2), (BEFORE, 1, 2)]));
+    is_found_in_rows(Blunder::TwoStepsBack, &any_points(3, &[(BEFORE, 1, 2), (BEFORE, 2, 3), (BEFORE, 3, 1)]));
+    is_found_in_rows(Blunder::DenialPointNotCounted, &denied(last(1), Row::of_set(1, FREE, 11, 1, 2)));
+    is_found_in_rows(Blunder::LeadingBackPasses, &any_points(2, &[(BEFORE, 1, 2), (BEFORE, 2, 1)]));
+}
+
+#[test]
+fn sets_miscounted() {
+    let with_event = |set: u64, event: u64| vec![Row::of_set(0, POINT, 1, 0, set), Row::of_set(0, EVENT, 1, 0, event)];
+    for blunder in [Blunder::EventNotCounted, Blunder::NoEventPasses] {
+        is_found_in_rows(blunder, &with_event(1, 2));
+    }
+    is_found_in_rows(Blunder::EmptySetPasses, &with_event(1, 0));
+    is_found_in_rows(Blunder::EventsBelow32, &with_event(1 << 33, 1 << 33));
+    let by_two = [&with_event(0b011, 0b110)[..], &[Row::of_set(0, EVENT, 1, 0, 0b101)]].concat();
+    is_found_in_rows(Blunder::SetsByTwo, &by_two);
+    is_found_in_rows(Blunder::NextAndLastNotCounted, &denied(Row::of_set(1, NEXT, 11, 1, 2), Row::of_set(1, EVENT, 11, 0, 2)));
+    let free = [&with_event(2, 2)[..], &[Row::of_set(0, FREE, 1, CLOSE, 4)]].concat();
+    is_found_in_rows(Blunder::FreeAsSet, &free);
+    is_found_in_rows(Blunder::WithoutSetImpossible, &denied(Row::new(1, EARLIER, 11, 1, 2, 0), own(SAME, 11, 1)));
+}
+
+#[test]
+fn points_joined_otherwise() {
+    let chain = any_points(3, &[(SAME, 1, 2), (SAME, 2, 3), (APART, 1, 3)]);
+    is_found_in_rows(Blunder::JoinedWithoutChains, &chain);
+    is_found_in_rows(Blunder::JoinedOneWay, &any_points(2, &[(SAME, 1, 2), (APART, 2, 1)]));
+    is_found_in_rows(Blunder::JoinedInSection, &denied(last(1), own(APART, 11, 1)));
+    let sets = [Row::of_set(0, POINT, 1, 0, 1), Row::of_set(0, POINT, 2, 0, 2), Row::new(0, SAME, 1, 2, 0, 0)];
+    let (apart, order) = (any_points(2, &[(SAME, 1, 2), (APART, 1, 2)]), any_points(2, &[(SAME, 1, 2), (BEFORE, 1, 2)]));
+    for (blunder, missed) in [
+        (Blunder::JoinedInSetsAlone, [&apart, &order]),
+        (Blunder::JoinedInApartAlone, [&sets.to_vec(), &order]),
+        (Blunder::JoinedInOrderAlone, [&sets.to_vec(), &apart]),
+    ] {
+        missed.into_iter().for_each(|rows| is_found_in_rows(blunder, rows));
+    }
+    is_found_in_rows(Blunder::ApartPasses, &apart);
+    // The start is below 12, which is one with 11, which is below the close.
+    let ends = [Row::of_set(1, LAST, 11, CLOSE, u64::MAX), Row::of_set(1, NEXT, 12, START, u64::MAX), own(BEFORE, 11, 12)];
+    is_found_in_rows(Blunder::EndsJoined, &ends);
+}
+
+#[test]
+fn rows_not_looked_at() {
+    is_found_in_rows(Blunder::AntecedentAlone, &denied(last(1), own(APART, 11, 1)));
+    is_found_in_rows(Blunder::AlwaysPossible, &any_points(2, &[(BEFORE, 1, 2), (BEFORE, 2, 1)]));
+    is_found_in_rows(Blunder::AlwaysImpossible, &any_points(2, &[(BEFORE, 1, 2)]));
+}
+
+/// Its numbers and what it writes; every slip of the rules is above.
+#[test]
+fn rulings_of_other_numbers() {
+    IN_RULINGS.into_iter().for_each(is_found);
+}
+
 /// On large sheets too, where demand 3 goes by placements.
 #[test]
 fn demand_3_finds_them_in_large_sheets() {
-    for blunder in [Blunder::ReverseOnly, Blunder::EndsBetween, Blunder::BringsAll, Blunder::OutsideAsBefore, Blunder::NoOrder] {
+    for blunder in [
+        Blunder::ReverseOnly,
+        Blunder::EndsBetween,
+        Blunder::BringsAll,
+        Blunder::OutsideAsBefore,
+        Blunder::NoOrder,
+        Blunder::FreeAsSet,
+    ] {
         let is_large = |seed: &u64| open(&large_pair_of(*seed).sheet, b"", Blunder::None).read_sheet().unwrap() > 4096;
         let breaks = |seed: &u64| Comparison::new(&Blundering(blunder), &large_pair_of(*seed), *seed).demand_3().is_err();
         let pairs = (0..4 * MOST_PAIRS).filter(is_large).find(breaks);

@@ -1,16 +1,19 @@
 //! What the random pairs and their arguments reach: every kind in every section that permits it, limits at and next to distances, short denials,
-//! both verdicts, every end of the check with a limit, and every refusal; and what the families have.
+//! both verdicts, every end of the check with a limit, numbers that are impossible by each rule alone, and every refusal; and what the families have.
 use satskhubo_tests::generate::arguments::{arguments_of, limits_of, Arguments};
 use satskhubo_tests::generate::chains::chains;
 use satskhubo_tests::generate::families;
+use satskhubo_tests::generate::joined::joined;
 use satskhubo_tests::generate::pairs::{
-    chained_pair_of, has_short_denial, is_violated_later, large_pair_of, long_pair_of, longer_rule_pair_of, pair_of, rule_pair_of,
+    chained_pair_of, has_short_denial, is_violated_later, joined_pair_of, large_pair_of, long_pair_of, longer_rule_pair_of,
+    pair_of, rule_pair_of,
 };
 use satskhubo_tests::generate::Pair;
 use satskhubo_tests::reference::antiscenario::antiscenario;
-use satskhubo_tests::reference::blunder::{Blunder, IN_FAR_ENDS};
+use satskhubo_tests::reference::blunder::{Blunder, IN_CONTRADICTIONS, IN_FAR_ENDS};
 use satskhubo_tests::reference::columns::read_line;
 use satskhubo_tests::reference::far_end::far_end;
+use satskhubo_tests::reference::impossible::Pattern;
 use satskhubo_tests::reference::log::Log;
 use satskhubo_tests::reference::operations::{open, Opened, Verdict};
 use satskhubo_tests::reference::refusal::Refusal;
@@ -393,6 +396,73 @@ fn show_every_slip(name: &str, texts: &[Vec<u8>]) {
 fn chains_show_every_slip() {
     show_every_slip("chained pairs", &(0..4000).map(|seed| chained_pair_of(seed).sheet).collect::<Vec<_>>());
     show_every_slip("the families", &chains().into_iter().flat_map(|family| family.sheets).collect::<Vec<_>>());
+}
+
+/// Document 02, A6: possible, impossible by one rule alone, or by several.
+const RULINGS: [&str; 5] =
+    ["possible", "no event in common alone", "APART inside alone", "back to itself alone", "several rules"];
+
+fn ruling_of(rows: &[Row]) -> &'static str {
+    let pattern = Pattern::new(rows);
+    match (pattern.has_no_event(), pattern.is_apart_from_itself(), pattern.leads_back()) {
+        (false, false, false) => RULINGS[0],
+        (true, false, false) => RULINGS[1],
+        (false, true, false) => RULINGS[2],
+        (false, false, true) => RULINGS[3],
+        _ => RULINGS[4],
+    }
+}
+
+/// The first so many numbers of a sheet.
+fn of_rulings(reached: &mut Reached, text: &[u8], most: u64) {
+    let Ok(sheet) = sheet::read(text, Blunder::None) else { return };
+    for rows in (1..=sheet.count.min(most)).map(|number| antiscenario(&sheet, number)) {
+        count(reached, ruling_of(&rows).into());
+        let is_own =
+            |row: &Row| introduced(&rows, row.section).contains(&row.p) && introduced(&rows, row.section).contains(&row.q);
+        if rows.iter().any(|row| row.kind == SAME && !is_own(row)) {
+            count(reached, "SAME across sections".into());
+        }
+    }
+}
+
+fn rulings_are_reached(name: &str, most: u64, texts: impl Iterator<Item = Vec<u8>>) {
+    let mut reached = Reached::new();
+    texts.for_each(|text| of_rulings(&mut reached, &text, most));
+    writeln!(std::io::stderr(), "of the numbers of {name}: {reached:?}").unwrap();
+    for what in RULINGS.into_iter().chain(["SAME across sections"]) {
+        assert!(reached.get(what).is_some_and(|&times| times >= OFTEN), "{name}: {what}: {:?}", reached.get(what));
+    }
+}
+
+#[test]
+fn numbers_are_impossible_by_each_rule() {
+    rulings_are_reached("random pairs", 6, (0..3000).map(|seed| pair_of(seed).sheet));
+    rulings_are_reached("joined pairs", 6, (0..1000).map(|seed| joined_pair_of(seed).sheet));
+    rulings_are_reached("large pairs", 6, (0..500).map(|seed| large_pair_of(seed).sheet));
+}
+
+/// Of one of the sheet's numbers the slip says otherwise.
+fn shown_by(slip: Blunder, text: &[u8]) -> bool {
+    let (slipped, due) = (open(text, b"", slip), open(text, b"", Blunder::None));
+    let count = due.read_sheet().expect("a joined sheet is accepted");
+    (1..=count.min(60)).any(|number| slipped.impossible(number) != due.impossible(number))
+}
+
+/// Document 02, A6: each slip in the rules says otherwise of so many sheets.
+#[test]
+fn joined_pairs_show_every_slip() {
+    let texts: Vec<Vec<u8>> = (0..1000).map(|seed| joined_pair_of(seed).sheet).collect();
+    for slip in IN_CONTRADICTIONS {
+        let shown = texts.iter().filter(|text| shown_by(slip, text)).take(OFTEN as usize).count() as u64;
+        assert_eq!(shown, OFTEN, "{slip:?} is shown by {shown} of {} joined pairs", texts.len());
+    }
+}
+
+/// Document 02, A6: the families of joined points have numbers of every sort.
+#[test]
+fn the_joined_families_have_every_ruling() {
+    rulings_are_reached("the joined families", 100, joined().into_iter().flat_map(|family| family.sheets));
 }
 
 /// A pair that is accepted, as it is read.

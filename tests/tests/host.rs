@@ -42,14 +42,16 @@ fn says_what_it_finds() {
     let violated = run(&mut Command::new(&program), "lockmass/sheet", "lockmass/log");
     assert_eq!(violated.status.code(), Some(1));
     let number_two = "antiscenario 2:\n  1  3\n  0  1  1  0          8          0\n  1  3 11  1          4          0\n  1 11 11  1          0        500\nfound at 3 1\n";
-    assert_eq!(said(&violated), format!("violated at 3, rows at fault 3\n{number_two}"));
+    // Document 02, A6: number 4 is impossible.
+    let due = format!("violated at 3, rows at fault 3\n{number_two}impossible, not searched: 1\n");
+    assert_eq!(said(&violated), due);
     let holds = run(&mut Command::new(&program), "lockmass/sheet", "lockmass/log-kept");
     assert_eq!((holds.status.code(), said(&holds).as_str()), (Some(0), "holds\n"));
     // Document 02, A9: a millisecond more.
     let fraction = run(&mut Command::new(&program), "lockmass/sheet", "lockmass/log-fraction");
     assert_eq!((fraction.status.code(), said(&fraction)), (Some(1), said(&violated)));
     let large = run(&mut Command::new(&program), "supplier/sheet", "supplier/log");
-    let due = "violated at 17, rows at fault 3 15 26 38 50 62\nsearched: 4096 of 16777216 antiscenarios\n";
+    let due = "violated at 17, rows at fault 3 15 26 38 50 62\nimpossible, not searched: 2368\nsearched: 1728 of 16777216 antiscenarios\n";
     assert_eq!((large.status.code(), said(&large).as_str()), (Some(1), due));
 }
 
@@ -96,7 +98,7 @@ fn keeps_to_its_memory() {
 fn the_header_serves_c_plus_plus() {
     let program = compiled("g++", "-std=c++11", "tests/host.cpp", "host-in-c++");
     let output = run(&mut Command::new(&program), "lockmass/sheet", "lockmass/log");
-    let due = "check 100\nread_log 0 3\nread_sheet 0 4\nsatskhubo_check 100 1 3 1 3\ncheck_limited 102 1 1\nwrite 0 112\nsearch 0 1 3 1\njudge 0 1\nshow 1 0 0 7\nwrite_field 0\nread_field 0 4294967295\n";
+    let due = "check 100\nread_log 0 3\nread_sheet 0 4\nsatskhubo_check 100 1 3 1 3\ncheck_limited 102 1 1\nwrite 0 112\nimpossible 0 1\nsearch 0 1 3 1\njudge 0 1\nshow 1 0 0 7\nwrite_field 0\nread_field 0 4294967295\n";
     assert_eq!((output.status.code(), said(&output).as_str()), (Some(0), due));
 }
 

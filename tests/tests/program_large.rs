@@ -119,10 +119,9 @@ fn ranges_are_searched_in_order() {
     let (status, text) = run(&["search", &sheet, &log, "--number", &range]).answer();
     let found = |number| format!("antiscenario {number} is found in {log}\n");
     assert!(status == 1 && text.starts_with(&found(FIRST_SAME)) && text.contains(&found(FIRST_SAME + 2)), "{text}");
-    assert!(
-        text.ends_with(&format!("2 of the antiscenarios {} to {} found in {log}\n", FIRST_SAME - 3, FIRST_SAME + 3)),
-        "{text}"
-    );
+    // The others have both SAME and BEFORE.
+    let last = format!("2 of the antiscenarios {} to {} found in {log}", FIRST_SAME - 3, FIRST_SAME + 3);
+    assert!(text.ends_with(&format!("{last}; 5 that no run can meet were passed over\n")), "{text}");
     let one = file(&folder, "s", &sheet_s());
     let (_, text) = run(&["search", &one, "examples/lockmass/log", "examples/lockmass/log-kept", "--number", "2-3"]).answer();
     assert!(text.contains("1 of the antiscenarios 2 to 3 found in examples/lockmass/log\n"), "{text}");
@@ -223,6 +222,8 @@ fn the_suppliers_log_is_searched() {
         alone.starts_with("antiscenario 1114113 is found in examples/supplier/log\n  point 1 (row 1, POINT): line 17 "),
         "{alone}"
     );
-    assert_eq!(hit, (1, format!("{alone}1 of the antiscenarios 1114000 to 1114113 found in {SUPPLIER_LOG}\n")));
-    assert_eq!(missed, (0, format!("none of the antiscenarios 1114114 to 1120000 is found in {SUPPLIER_LOG}\n")));
+    let last = format!("1 of the antiscenarios 1114000 to 1114113 found in {SUPPLIER_LOG}");
+    assert_eq!(hit, (1, format!("{alone}{last}; 52 that no run can meet were passed over\n")));
+    let last = format!("none of the antiscenarios 1114114 to 1120000 is found in {SUPPLIER_LOG}");
+    assert_eq!(missed, (0, format!("{last}; 3296 of them no run can meet\n")));
 }

@@ -291,9 +291,10 @@ fn antiscenarios_and_searches() {
     let found = "antiscenario 2 is found in examples/lockmass/log
   point 1 (row 1, POINT): line 3 of the log, line 4 of the file, tick 900, event 3
   point 11 (row 2, LAST): line 1 of the log, line 2 of the file, tick 100, event 2
-1 of 4 antiscenarios found in examples/lockmass/log
+1 of 4 antiscenarios found in examples/lockmass/log; 1 that no run can meet was passed over
 ";
     assert_eq!(run(&["search", SHEET, LOG]).answer(), (1, found.to_string()));
     let (status, none) = run(&["search", SHEET, KEPT]).answer();
-    assert_eq!((status, none.as_str()), (0, "none of the 4 antiscenarios is found in examples/lockmass/log-kept\n"));
+    let due = "none of the 4 antiscenarios is found in examples/lockmass/log-kept; 1 of them no run can meet\n";
+    assert_eq!((status, none.as_str()), (0, due));
 }

@@ -31,6 +31,8 @@ fn every_operation_on_the_stack_promised() {
     on_little_stack(|| Host.read_sheet(&sheet));
     on_little_stack(|| Host.judge(&sheet, &log, 1, &table));
     on_little_stack(|| Host.write(&sheet, 1, 3437));
+    on_little_stack(|| Host.impossible(&sheet, 1));
+    on_little_stack(|| Host.impossible(&sheet, 64));
     on_little_stack(|| Host.search(&sheet, &log, 1, 58));
     on_little_stack(|| Host.search(&sheet, &log, 64, 58));
     on_little_stack(|| Host.check_number(&sheet, &log));
@@ -41,7 +43,7 @@ fn every_operation_on_the_stack_promised() {
     on_little_stack(|| Host.show(&sheet, &log[..log.len() - 1]));
     on_little_stack(|| Host.read_field(&log, 5));
     on_little_stack(|| Host.write_field(11, 0, 11, u32::MAX));
-    tell("threads: little stack", 14);
+    tell("threads: little stack", 16);
 }
 
 /// What every operation says of a pair.
@@ -58,7 +60,8 @@ fn answers(pair: &Pair) -> String {
     let numbered: Vec<_> = (0..4)
         .map(|number| {
             let table = Table::of(&[number as u32; 3], 7);
-            (Host.write(sheet, number, 3437), Host.search(sheet, log, number, 58), Host.judge(sheet, log, number, &table))
+            let of_sheet = (Host.write(sheet, number, 3437), Host.impossible(sheet, number));
+            (of_sheet, Host.search(sheet, log, number, 58), Host.judge(sheet, log, number, &table))
         })
         .collect();
     format!("{read:?} {numbered:?}")

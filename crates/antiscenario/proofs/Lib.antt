@@ -2,6 +2,7 @@ pub mod Accept
 pub mod Bound
 pub mod Ink
 pub mod Fitting
+pub mod Loading
 pub mod Writing
 pub mod Plainly
 pub mod Demand

@@ -9,7 +9,7 @@ use Rattle.scenario.specs.Sheet.{Sheet, count, antiscenario}
 use Rattle.scenario.specs.Reading.{All, Pattern}
 use Rattle.row.specs.Memory.{linesIn, rowsOf}
 use Rattle.sheet.specs.Text.{Fits, numbersOf}
-use Rattle.sheet.specs.Reading.{sheetIn}
+use Rattle.sheet.specs.Reading.{answer, sheetIn}
 use Rattle.run.specs.Maps.{Blank}
 use Rattle.run.specs.Held.{Held, runHeld}
 use Rattle.runlog.specs.Log.{runIn}
@@ -25,6 +25,15 @@ pub record AntiscenarioHeld (sheet : Sheet) (number : ℕ) (rows : List ℕ) (co
   -- no more than the sheet's 176 rows and 3 for each of 6 consequents
   pub few : count ≤ 194
   pub room : 6 * count ≤ length rows
+
+-- Antiscenario `number` of the sheet s is in memory, and k is the sheet's number of consequents.
+pub record TextHeld (s : List ℕ) (number : ℕ) (rows : List ℕ) (k count : ℕ) : Type 0 where
+  pub accepted : answer s .refusal ≡ 0
+  pub low : 1 ≤ number
+  pub high : number ≤ answer s .count
+  pub consequents : k ≡ answer s .k
+  pub few-consequents : k ≤ 6
+  pub rows-held : AntiscenarioHeld (sheetIn s) number rows count
 
 -- Antiscenario `number` of the sheet s and the log l are in memory: `count` rows, six numbers to a row, and the log's run, of which no maps are drawn.
 pub record Ready (s l : List ℕ) (number : ℕ) (rows : List ℕ) (count : ℕ) (run : List ℕ) : Type 0 where

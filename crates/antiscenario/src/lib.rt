@@ -8,8 +8,8 @@ ghost use Rattle.row.specs.Memory.{linesIn};
 ghost use Rattle.sheet.specs.Held.{sheetAt, SheetLoaded};
 ghost use Rattle.sheet.specs.Text.{Fits, rowText, rowsText, headText, sheetText};
 ghost use Rattle.columns.specs.Ink.{inked};
-ghost use Rattle.antiscenario.specs.Numbers.{numberRefusal};
-ghost use Rattle.antiscenario.specs.Held.{AntiscenarioHeld, Ready};
+ghost use Rattle.antiscenario.specs.Numbers.{numberRefusal, textRefusal};
+ghost use Rattle.antiscenario.specs.Held.{AntiscenarioHeld, TextHeld, Ready};
 ghost use Rattle.antiscenario.specs.Write.{noText, writeOf, afterWrite};
 ghost use Rattle.antiscenario.specs.Judge.{refusalOf, unjudged as unjudgedOf, judgeOf};
 ghost use Rattle.scenario.specs.Reading.{All};
@@ -106,18 +106,49 @@ pub fn load(rows: &[u32], read: sheet::Answer, number: u64, out: &mut [u32]) -> 
     }
 }
 
+// What loading an antiscenario from a sheet's text gives: the refusal, or 0, the number of consequents, and how many rows it has.
+pub struct TextRows {
+    pub refusal: u32,
+    pub k: u32,
+    pub rows: u32,
+}
+
+fn no_rows(refusal: u32) -> TextRows
+    ensures { λ r. ⌜ r .refusal ≡ refusal ⌝ }
+{
+    TextRows {
+        refusal,
+        k: 0,
+        rows: 0,
+    }
+}
+
+// Reads a sheet, and stores antiscenario `number`, six numbers to a row: the sheet's refusals, 31.
+pub fn load_text(sheet: &[u8], number: u64, out: &mut [u32]) -> TextRows
+    requires { ⌜ 1200 ≤ length (now out) ⌝ }
+    ensures refusal { λ r. ⌜ r .refusal ≡ textRefusal (now (sheet .entry)) number ⌝ }
+    ensures memory { λ r. ⌜ (r .refusal ≡ 0 → TextHeld (now (sheet .entry)) number (now (out .exit)) (r .k) (r .rows)) ⌝ }
+{
+    let mut rows = [0u32; sheet::SHEET_ROOM];
+    let read = sheet::load_sheet(sheet, &mut rows);
+    if read.refusal != 0 {
+        return no_rows(read.refusal);
+    }
+    let loaded = load(&rows, read, number, out);
+    TextRows {
+        refusal: loaded.refusal,
+        k: read.k,
+        rows: loaded.rows,
+    }
+}
+
 // "Write antiscenario m into a lent buffer."
 pub fn write_antiscenario(sheet: &[u8], number: u64, buf: &mut [u8]) -> Written
     ensures answers { λ r. ⌜ r ≡ writeOf (now (sheet .entry)) number (length (now (buf .entry))) ⌝ }
     ensures memory { λ r. ⌜ now (buf .exit) ≡ afterWrite (now (sheet .entry)) number (now (buf .entry)) ⌝ }
 {
-    let mut rows = [0u32; sheet::SHEET_ROOM];
-    let read = sheet::load_sheet(sheet, &mut rows);
-    if read.refusal != 0 {
-        return no_text(read.refusal);
-    }
     let mut out = [0u32; pattern::ROWS_ROOM];
-    let loaded = load(&rows, read, number, &mut out);
+    let loaded = load_text(sheet, number, &mut out);
     if loaded.refusal != 0 {
         return no_text(loaded.refusal);
     }
@@ -126,7 +157,7 @@ pub fn write_antiscenario(sheet: &[u8], number: u64, buf: &mut [u8]) -> Written
     if buf.len() < size {
         return no_text(BUFFER_TOO_SHORT);
     }
-    write_text(buf, read.k, &out, n);
+    write_text(buf, loaded.k, &out, n);
     Written {
         refusal: 0,
         length: size,

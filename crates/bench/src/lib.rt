@@ -13,6 +13,7 @@ ghost use Rattle.antiscenario.specs.Write.{writeOf, afterWrite};
 ghost use Rattle.search.specs.Searching.{searchOf};
 ghost use Rattle.verdict.specs.Check.{checkOf};
 ghost use Rattle.limit.specs.Limit.{limitedOf};
+ghost use Rattle.contradiction.specs.Ruling.{impossibleOf};
 ghost use Rattle.line.specs.Showing.{partOf, shownLine};
 ghost use Rattle.bench.specs.Host.{hostNumber, limitedNumber, unlessRefused, whenViolated, fronted, fieldNumber, fieldValue, entryNumber};
 
@@ -101,6 +102,20 @@ pub extern "C" fn satskhubo_write(
         return written.refusal;
     }
     *size = written.length;
+    0
+}
+
+// Whether antiscenario `number` is impossible (document 02, A6).
+#[no_mangle]
+pub extern "C" fn satskhubo_impossible(sheet: &[u8], number: u64, impossible: &mut bool) -> u32
+    ensures answer { λ r. ⌜ r ≡ impossibleOf (now (sheet .entry)) number .refusal ⌝ }
+    ensures memory { λ _. ⌜ now (impossible .exit) ≡ unlessRefused (impossibleOf (now (sheet .entry)) number .refusal) (impossibleOf (now (sheet .entry)) number .impossible) (now (impossible .entry)) ⌝ }
+{
+    let ruled = contradiction::is_impossible(sheet, number);
+    if ruled.refusal != 0 {
+        return ruled.refusal;
+    }
+    *impossible = ruled.impossible;
     0
 }
 

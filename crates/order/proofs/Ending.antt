@@ -3,16 +3,16 @@
 use mathlib.Core.Path.{_≡_, refl, sym, ap, ap₂, _∙_}
 use mathlib.Core.Bool.{Bool, true, false, not, _&&_, _||_, cond}
 use mathlib.Core.List.{List, [], _∷_}
-use Prim.Native.Nat.{ℕ, zero, suc, _+_, _-_, _^_, _≤_, _<_}
+use Prim.Native.Nat.{ℕ, zero, suc, _+_, _-_, _≤_, _<_}
 use native.Mathlib.Omega.{arith}
 use lib.ListN.{drop}
 use lib.Dec.{eqb}
 use borrow.Author.Tests.{eq-eqb, ne-eqb}
 use Rattle.scenario.specs.Links.{leads}
-use Rattle.scenario.specs.Rows.{may-end, first-or}
+use Rattle.scenario.specs.Rows.{full-set, may-end, first-or}
 use Rattle.scenario.specs.Log.{inSet}
 use Rattle.scenario.specs.Reading.{All}
-use Rattle.scenario.proofs.Logs.{inSet-complement, inSet-none}
+use Rattle.scenario.proofs.Logs.{inSet-full}
 use Rattle.row.specs.declared.Line.{Line}
 use Rattle.order.specs.Leading.{places, place, linksIn, Led}
 use Rattle.order.specs.Ending.{antecedent-points, mayEnd, InOrder, endIn, farIn}
@@ -65,9 +65,9 @@ module _ (long : ℕ) (f : ℕ → Bool) where
 
 -- where q is the edge, and where it is not
 module _ (m : List ℕ) (n : ℕ) (upward : Bool) (q edge : ℕ) where
-  pub everywhere : q ≡ edge → InOrder 4294967295 m n upward q edge
+  pub everywhere : q ≡ edge → InOrder full-set m n upward q edge
   everywhere e z h =
-      inSet-complement z 32 0 (omega arith) (omega arith) ∙ ap not (inSet-none z)
+      inSet-full z (omega arith)
       ∙ sym (ap (λ (b : Bool). b || leads (linksIn m 0 upward 0 n) (place q) z) (eq-eqb q edge e))
 
   pub by-rows : (q ≡ edge → ⊥) → (set : ℕ) → Led set (linksIn m 0 upward 0 n) (place q) → InOrder set m n upward q edge

@@ -1,4 +1,3 @@
-pub mod Sets
 pub mod Entering
 pub mod Ending
 pub mod Places

@@ -4,16 +4,16 @@ use mathlib.Core.Path.{_≡_, refl, sym, ap, ap₂, _∙_, subst}
 use mathlib.Core.Logic.{_⊎_, inl, inr, ⊎-elim}
 use mathlib.Core.Bool.{Bool, true, false, not, _&&_, _||_, cond}
 use mathlib.Core.List.{List, [], _∷_, _++_, map}
-use Prim.Native.Nat.{ℕ, zero, suc, _+_, _*_, _-_, _%_, _≤_, _<_}
+use Prim.Native.Nat.{ℕ, zero, suc, _+_, _*_, _%_, _≤_, _<_}
 use native.Mathlib.Omega.{arith}
 use lib.ListN.{length, take, drop}
-use lib.Dec.{T, ltb, eqb}
+use lib.Dec.{eqb}
 use borrow.Author.Tests.{lt-ltb, le-ltb, eqb-true, eqb-false, eq-eqb, ne-eqb}
 use Rattle.scenario.specs.Links.{Link, link, leads}
-use Rattle.scenario.specs.Rows.{Row, point, next, last, earlier, later, before, apart, same, free, within, outside, event, points, elem, introduced, needs, gather, before-link, ascends, may-end, first-or, far-end}
+use Rattle.scenario.specs.Rows.{Row, point, next, last, earlier, later, before, apart, same, free, within, outside, event, points, introduced, needs, gather, before-link, ascends, may-end, first-or, far-end}
 use Rattle.scenario.specs.Fields.{decode, rowOf}
-use Rattle.scenario.specs.Reading.{All, Counted, Seen, first, final, antecedent, own, RowRead, RowsRead}
-use Rattle.scenario.proofs.Base.{all-map, all-append, tell, is-true, is-false, Order, lower, level, upper, order}
+use Rattle.scenario.specs.Reading.{All, Counted, Seen, first, final, antecedent, own, RowsRead}
+use Rattle.scenario.proofs.Base.{all-map, tell, is-false}
 use Rattle.scenario.proofs.Reading.{short, counted-all}
 use Rattle.scenario.proofs.Links.{all-gather, leads-in}
 use Rattle.scenario.proofs.Numbers.{any-kind}
@@ -21,9 +21,10 @@ use Rattle.row.specs.declared.Line.{Line}
 use Rattle.row.specs.Row.{six, rowIn}
 use Rattle.row.specs.Memory.{lineIn, linesIn}
 use Rattle.sheet.specs.Reading.{section}
+use Rattle.links.proofs.Places.{same-place, leads-placed}
 use Rattle.order.specs.Leading.{place, linkOf, linksIn}
 use Rattle.order.specs.Ending.{antecedent-points, endIn, farIn}
-use Rattle.order.proofs.Ending.{first-or-same, far-of-next, far-of-last, far-of-other, and-false}
+use Rattle.order.proofs.Ending.{first-or-same, far-of-other, and-false}
 
 -- Places
 
@@ -83,34 +84,20 @@ module _ (a s : ℕ) (few : a ≤ 4) (pos : 1 ≤ s) where
       go (inside p k u) (back q v) = absurd (omega arith)
       go (inside p k u) (inside q l v) = omega arith
 
-  same-place : (x y : ℕ) → Here x → Here y → eqb (place x) (place y) ≡ eqb x y
-  same-place x y hx hy = go (eqb x y) refl
-    where
-      go : (b : Bool) → eqb x y ≡ b → eqb (place x) (place y) ≡ b
-      go true e = eq-eqb (place x) (place y) (ap place (eqb-true x y e))
-      go false e = ne-eqb (place x) (place y) (λ q. eqb-false x y e (one-place x y hx hy q))
-
   -- links between such points lead as those between their places
   abbrev Between : Link → Type 0
   Between l = Here (l .from) × Here (l .to)
 
-  leads-upward : (ls : List Link) → All Between ls → (x y : ℕ) → Here x → Here y → leads (map (toward true) ls) (place x) (place y) ≡ leads ls x y
-  unfolding leads
-  leads-upward [] h x y hx hy = same-place x y hx hy
-  leads-upward (l ∷ ls) h x y hx hy =
-      ap₂ _||_ (leads-upward ls (h .1) x y hx hy)
-      (ap₂ _&&_ (leads-upward ls (h .1) x (l .from) hx (h .0 .0)) (leads-upward ls (h .1) (l .to) y (h .0 .1) hy))
-
   leads-downward : (ls : List Link) → All Between ls → (x y : ℕ) → Here x → Here y → leads (map (toward false) ls) (place x) (place y) ≡ leads ls y x
   unfolding leads
-  leads-downward [] h x y hx hy = same-place x y hx hy ∙ eqb-swap x y
+  leads-downward [] h x y hx hy = same-place place Here one-place x y hx hy ∙ eqb-swap x y
   leads-downward (l ∷ ls) h x y hx hy =
       ap₂ _||_ (leads-downward ls (h .1) x y hx hy)
       (ap₂ _&&_ (leads-downward ls (h .1) x (l .to) hx (h .0 .1)) (leads-downward ls (h .1) (l .from) y (h .0 .0) hy) ∙ and-swap (leads ls (l .to) x) (leads ls y (l .from)))
 
   leads-toward : (upward : Bool) (ls : List Link) → All Between ls → (x y : ℕ) → Here x → Here y
       → leads (map (toward upward) ls) (place x) (place y) ≡ cond upward (leads ls x y) (leads ls y x)
-  leads-toward true = leads-upward
+  leads-toward true = leads-placed place Here one-place
   leads-toward false = leads-downward
 
   -- and to no other place

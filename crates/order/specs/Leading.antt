@@ -1,10 +1,9 @@
 -- Where the BEFORE rows of a section in memory lead, as the code goes: between places of a table. Inner vocabulary.
 -- Assumes nothing.
-use mathlib.Core.Bool.{Bool, cond, _&&_, _||_}
+use mathlib.Core.Bool.{Bool, cond, _&&_}
 use mathlib.Core.List.{List, [], _∷_}
 use mathlib.Core.Path.{_≡_}
 use Prim.Native.Nat.{ℕ, zero, suc, _+_, _%_, _<_}
-use lib.ListN.{length, getD}
 use lib.Dec.{ltb, eqb}
 use Rattle.scenario.specs.Links.{Link, link, leads}
 use Rattle.scenario.specs.Log.{inSet}
@@ -14,22 +13,6 @@ use Rattle.row.specs.Memory.{lineIn}
 -- places for the points that the rows of one section may use
 abbrev pub places : ℕ
 places = 20
-
--- a table of sets tells that place x leads to place y; and it tells a relation
-abbrev pub told : (table : List ℕ) (x y : ℕ) → Bool
-told table x y = inSet (getD table x 0) y
-
-pub record Tells (table : List ℕ) (leads-to : ℕ → ℕ → Bool) : Type 0 where
-  pub size : length table ≡ places
-  pub tells : (x y : ℕ) → x < places → y < places → told table x y ≡ leads-to x y
-
--- the set, with all that is beyond a place that it has
-abbrev pub Onward : (set from beyond r : ℕ) → Type 0
-Onward set from beyond r = (y : ℕ) → inSet r y ≡ (inSet set y || (inSet set from && inSet beyond y))
-
--- what a table tells with a link entered: what leads to its first place leads to all that its second leads to
-abbrev pub entered : (table : List ℕ) (from to x y : ℕ) → Bool
-entered table from to x y = told table x y || (told table x from && told table to y)
 
 -- the place of a point: that of the antecedent's 1 to 4 is its number, that of a section's point 10i + t is 10 + t
 unfoldable pub place : ℕ → ℕ

@@ -1,8 +1,8 @@
 -- Rows stored in memory are found again, and nothing else changes.
 -- Assumes nothing.
-use mathlib.Core.Path.{_≡_, refl, sym, ap, ap₂, _∙_, subst}
+use mathlib.Core.Path.{_≡_, refl, ap, ap₂, _∙_}
 use mathlib.Core.List.{_∷_, List·Memᴰ, List·Memᴰ·head, List·Memᴰ·tail, List, [], map, _++_}
-use Prim.Native.Nat.{ℕ, zero, suc, _+_, _-_, _≤_, _<_, _*_}
+use Prim.Native.Nat.{ℕ, zero, suc, _+_, _≤_, _<_, _*_}
 use native.Mathlib.Omega.{arith}
 use Rattle.scenario.proofs.Base.{Order, lower, level, upper, order}
 use Rattle.scenario.specs.Reading.{All}
@@ -11,16 +11,6 @@ use lib.ListN.{length, length-set, getD, set}
 use Rattle.row.specs.declared.Line.{Line}
 use mathlib.Core.Logic.{_⊎_, inl, inr}
 use lib.Seq.{getD-set-same, getD-set-other}
-
--- Filled up to an index
-
-pub filled-more : (Q : ℕ → ℕ → Type 0) (l : List ℕ) (j r : ℕ) → j < length l → ((i : ℕ) → i < j → Q (getD l i 0) i) → Q r j → (i : ℕ) → i < j + 1 → Q (getD (set l j r) i 0) i
-filled-more Q l j r h f q i k = go (order i j)
-  where
-    go : Order i j → Q (getD (set l j r) i 0) i
-    go (lower s) = subst (λ (z : ℕ). Q z i) (sym (getD-set-other l j i r 0 (λ e. omega arith))) (f i s)
-    go (level e) = subst (λ (z : ℕ). Q (getD (set l j r) z 0) z) (sym e) (subst (λ (z : ℕ). Q z j) (sym (getD-set-same l j r 0 h)) q)
-    go (upper s) = absurd (omega arith)
 
 -- Rows by index
 

@@ -6,7 +6,8 @@ use mathlib.Core.Bool.{Bool, true, false, not, _&&_, _||_}
 use mathlib.Core.List.{List, [], _∷_, _++_, List·Memᴰ, List·Memᴰ·head, List·Memᴰ·tail}
 use Prim.Native.Nat.{ℕ, zero, suc, _+_, _≤_, _<_}
 use native.Mathlib.Omega.{arith}
-use lib.ListN.{length, getD}
+use lib.ListN.{length, getD, set}
+use lib.Seq.{getD-set-same, getD-set-other}
 use lib.Dec.{ltb, eqb, T, ltb→lt, nltb→le, eqb→eq, eqb-refl, T-not, not-T}
 use mathlib.Core.Option.{Option, none, some}
 use Rattle.scenario.specs.Rows.{below, elem, brings}
@@ -114,6 +115,16 @@ module _ {A : Type 0} (P : A → Type 0) (d : A) where
   pub getD-all : (l : List A) → ((i : ℕ) → i < length l → P (getD l i d)) → All P l
   getD-all [] h = tt
   getD-all (x ∷ xs) h = (h 0 (omega arith), getD-all xs (λ i b. h (suc i) (omega arith)))
+
+-- filled up to an index
+
+pub filled-more : (Q : ℕ → ℕ → Type 0) (l : List ℕ) (j r : ℕ) → j < length l → ((i : ℕ) → i < j → Q (getD l i 0) i) → Q r j → (i : ℕ) → i < j + 1 → Q (getD (set l j r) i 0) i
+filled-more Q l j r h f q i k = go (order i j)
+  where
+    go : Order i j → Q (getD (set l j r) i 0) i
+    go (lower s) = subst (λ (z : ℕ). Q z i) (sym (getD-set-other l j i r 0 (λ e. omega arith))) (f i s)
+    go (level e) = subst (λ (z : ℕ). Q (getD (set l j r) z 0) z) (sym e) (subst (λ (z : ℕ). Q z j) (sym (getD-set-same l j r 0 h)) q)
+    go (upper s) = absurd (omega arith)
 
 -- Membership as a test
 

@@ -3,7 +3,7 @@
 use mathlib.Core.Path.{_≡_, refl, sym, subst}
 use mathlib.Core.Logic.{⊎-elim}
 use mathlib.Core.Bool.{Bool, true, false, _&&_, _||_}
-use mathlib.Core.List.{List, [], _∷_, List·Memᴰ, List·Memᴰ·head, List·Memᴰ·tail, Memᴰ·append-left, Memᴰ·append-right, List·Memᴰ·not-nil, List·Memᴰ·cases-cons}
+use mathlib.Core.List.{List, [], _∷_, List·Memᴰ, List·Memᴰ·head, List·Memᴰ·tail, Memᴰ·append-left, Memᴰ·append-right, List·Memᴰ·append-cases, List·Memᴰ·not-nil, List·Memᴰ·cases-cons}
 use Prim.Native.Nat.{ℕ}
 use lib.Dec.{T, eqb, eqb→eq, eqb-refl}
 use Rattle.scenario.specs.Links.{Link, leads}
@@ -29,6 +29,12 @@ module _ {A : Type 0} where
   gather-put f (k ∷ rows) {x} n m =
       ⊎-elim (λ e. Memᴰ·append-left (gather f rows) (subst (λ (y : Row). List·Memᴰ x (f y)) e m))
       (λ h. Memᴰ·append-right (f k) (gather-put f rows h m)) (List·Memᴰ·cases-cons n)
+
+  pub gather-get : (f : Row → List A) (rows : List Row) {x : A} → List·Memᴰ x (gather f rows) → (row : Row) × List·Memᴰ row rows × List·Memᴰ x (f row)
+  unfolding gather
+  gather-get f [] m = absurd (List·Memᴰ·not-nil m)
+  gather-get f (k ∷ rows) m =
+      ⊎-elim (λ n. (k, List·Memᴰ·head refl, n)) (λ n. let g = gather-get f rows n in (g .0, List·Memᴰ·tail (g .1), g .2)) (List·Memᴰ·append-cases (f k) m)
 
 -- The relation
 

@@ -5,7 +5,7 @@ use mathlib.Core.Path.{_≡_, refl, sym, _∙_, ap, subst}
 use mathlib.Core.Logic.{_↔_}
 use mathlib.Core.Bool.{true, false}
 use mathlib.Core.List.{List, [], _∷_, _++_}
-use Prim.Native.Nat.{ℕ, zero, suc, _+_, _≤_, _<_}
+use Prim.Native.Nat.{ℕ, zero, suc, _≤_, _<_}
 use native.Mathlib.Omega.{arith}
 use lib.ListN.{length, take, drop, replicate, length-append}
 use lib.Seq.{take-at}
@@ -46,7 +46,7 @@ module _ (s l : List ℕ) (A : Accepted s l) where
   abbrev sheet : Sheet
   sheet = sheetIn s
 
-  abbrev F : ℕ → Answer
+  abbrev pub F : ℕ → Answer
   F m = smallest-matching run (antiscenario sheet m)
 
   pub N : countIn s ≡ count sheet
@@ -79,11 +79,11 @@ module _ (s l : List ℕ) (A : Accepted s l) where
   unfolding antiscenario
   long m zs t = omega (arith, match-get run (antiscenario sheet m) zs t .size, ap length (points-append (sheet .antecedent) (flat (chosen sheet m))), length-append (points (sheet .antecedent)) (points (flat (chosen sheet m))))
 
-  cut-filled : (m : ℕ) (zs places : List ℕ) → T (matching run (antiscenario sheet m) zs) → cut sheet (filled places (found zs)) ≡ cut sheet zs
+  pub cut-filled : (m : ℕ) (zs places : List ℕ) → T (matching run (antiscenario sheet m) zs) → cut sheet (filled places (found zs)) ≡ cut sheet zs
   unfolding cut filled
   cut-filled m zs places t = take-front (length (points (sheet .antecedent))) zs (drop (length zs) places) (long m zs t)
 
-  matches : (m : ℕ) (zs : List ℕ) → F m ≡ found zs → T (matching run (antiscenario sheet m) zs)
+  pub matches : (m : ℕ) (zs : List ℕ) → F m ≡ found zs → T (matching run (antiscenario sheet m) zs)
   matches m zs e = subst (Says (λ zs. T (matching run (antiscenario sheet m) zs))) e (search-says run (antiscenario sheet m)) .has
 
   agreed : (xs : List ℕ) → Violating run sheet xs ↔ Denied s l xs
@@ -114,7 +114,7 @@ module _ (s l : List ℕ) (A : Accepted s l) where
     λ f. matched (core .none .1 (λ m a b. said (lent m) (F m) (ap (λ (r : Searched). r .hit) (sym (search-is m a (from m b) (lent m) (E m a (from m b)))) ∙ f m a (from m b) .none))),
   )
 
-  hits : (places : List ℕ) (a : Answer) → isFound a ≡ true → (zs : List ℕ) × (a ≡ found zs)
+  pub hits : (places : List ℕ) (a : Answer) → isFound a ≡ true → (zs : List ℕ) × (a ≡ found zs)
   hits places nothing e = let z : _≡_ {A = ℕ} 0 1 = cc in absurd (omega arith)
   hits places (found zs) e = (zs, refl)
 

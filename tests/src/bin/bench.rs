@@ -1,10 +1,10 @@
-//! The proved code through the C interface beside plain Rust, in one run, as ratios: bench [check | alone | counts | once ours|plain
-//! check|NUMBER|CASE|RULE | logs FOLDER].
+//! The proved code through the C interface beside plain Rust, in one run, as ratios: bench [check | impossible | alone | counts | once
+//! ours|plain check|NUMBER|CASE|RULE | logs FOLDER].
 use satskhubo_tests::expected::{STOPPED, VIOLATED};
 use satskhubo_tests::generate::cases::{case_of, cases, Case};
 use satskhubo_tests::generate::logs::{log_of, mixed, uniform};
 use satskhubo_tests::generate::rules::{rule_of, rules, standing_measures, Rule};
-use satskhubo_tests::generate::sheets::{sheet_of, sheet_s};
+use satskhubo_tests::generate::sheets::{largest, sheet_of, sheet_s};
 use satskhubo_tests::host::Host;
 use satskhubo_tests::outcome::Side;
 use satskhubo_tests::plain::tried::Tried;
@@ -209,6 +209,21 @@ fn write_all() {
     Table::new().line("write all of N = 4,096", 0, both(write_ours, write_plain));
 }
 
+/// Document 02, A6: whether each number is impossible: of the sheet that all are written of, and of one whose antiscenarios have 58 points and 98 rows.
+fn rule_all() {
+    if !OF_THIS_TREE {
+        return;
+    }
+    for (name, sheet, count) in
+        [("impossible: all of N = 4,096", many_antiscenarios(), 4096), ("impossible: 58 points, N = 64", largest(), 64)]
+    {
+        assert!((1..=count).all(|number| Host.impossible(&sheet, number) == Plain.impossible(&sheet, number)));
+        let rule_ours = || (1..=count).for_each(|number| keep(Host.impossible(black_box(&sheet), number)));
+        let rule_plain = || (1..=count).for_each(|number| keep(Plain.impossible(black_box(&sheet), number)));
+        Table::new().line(name, 0, both(rule_ours, rule_plain));
+    }
+}
+
 /// The search of these numbers, one after another, on logs of each size.
 fn search(name: &str, sheet: &[u8], numbers: RangeInclusive<u64>, log: impl Fn(u32) -> Vec<u8>) {
     let mut table = Table::new();
@@ -366,6 +381,9 @@ fn main() {
         return counts();
     }
     Table::heading();
+    if word == "impossible" {
+        return rule_all();
+    }
     if word == "check" {
         check_standing_measures();
         return check_with_limit();
@@ -373,6 +391,7 @@ fn main() {
     read_logs();
     read_sheets();
     write_all();
+    rule_all();
     for number in 1..=4 {
         search(&format!("search S, number {number}"), &sheet_s(), number..=number, mixed_text);
     }

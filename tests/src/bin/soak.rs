@@ -2,8 +2,9 @@
 use satskhubo_tests::compare::{compare, compare_findings, compare_long, compare_once, Mismatch, Tally};
 use satskhubo_tests::generate::chains::{chain_logs, chains};
 use satskhubo_tests::generate::families::{self, Family};
+use satskhubo_tests::generate::joined::joined;
 use satskhubo_tests::generate::pairs::{
-    chained_pair_of, independent_pair_of, large_pair_of, long_pair_of, longer_rule_pair_of, pair_of, rule_pair_of,
+    chained_pair_of, independent_pair_of, joined_pair_of, large_pair_of, long_pair_of, longer_rule_pair_of, pair_of, rule_pair_of,
 };
 use satskhubo_tests::generate::{logs, sheets, Pair};
 use satskhubo_tests::host::Host;
@@ -87,17 +88,19 @@ struct Soak {
     large: Soaked,
     boards: Soaked,
     chains: Soaked,
+    joined: Soaked,
 }
 
 impl Soak {
     fn new() -> Soak {
         let large = Soaked::new(families::large(), &families::logs());
         let boards = Soaked::new(families::boards(), &families::board_logs());
-        Soak { large, boards, chains: Soaked::new(chains(), &chain_logs()) }
+        let joined = Soaked::new(joined(), &families::board_logs());
+        Soak { large, boards, chains: Soaked::new(chains(), &chain_logs()), joined }
     }
 
-    /// Mostly the seed's own pair; else one of the families, one with a longer log, one with a large sheet, one with chains, one
-    /// whose consequents are independent, or one of an ordinary rule.
+    /// Mostly the seed's own pair; else one of the families, one with a longer log, one with a large sheet, one with chains, one with joined
+    /// points, one whose consequents are independent, or one of an ordinary rule.
     fn compare(&self, seed: u64) -> Result<Tally, Mismatch> {
         let mut random = Random::new(!seed);
         match random.below(100) {
@@ -115,6 +118,8 @@ impl Soak {
             50..=56 => compare(&Host, &independent_pair_of(seed), seed, 12),
             57..=68 => compare(&Host, &rule_pair_of(seed), seed, 12),
             69 => compare_findings(&Host, &longer_rule_pair_of(seed), seed, 12),
+            70..=76 => compare(&Host, &joined_pair_of(seed), seed, 12),
+            77 | 78 => compare(&Host, &self.joined.pair(&mut random), seed, 12),
             _ => compare(&Host, &pair_of(seed), seed, 12),
         }
     }

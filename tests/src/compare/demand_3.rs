@@ -1,4 +1,5 @@
-//! Demand 3 on one pair: by the reference and the side's searches and check, or by the side's own answers alone.
+//! Demand 3 on one pair: by the reference and the side's searches and check, or by the side's own answers alone; over all numbers, and over those
+//! alone that the side says are possible (document 02, A6).
 use super::{Compared, Comparison, Mismatch, MOST_EACH, SAMPLE};
 use crate::expected::VIOLATED;
 use crate::outcome::{Side, GUARD};
@@ -53,8 +54,9 @@ impl<S: Side> Comparison<'_, S> {
             self.same(format_args!("demand 3: number {number} is cut down to what is reached"), inside, true)?;
         }
         for (index, number) in numbers.iter().enumerate() {
-            let by_it = number.is_none_or(|number| cut_down.of(&antiscenario(sheet, number))[index]);
-            self.same("demand 3: the number that reaches a front", by_it, true)?;
+            let Some(number) = *number else { continue };
+            let by_it = cut_down.of(&antiscenario(sheet, number))[index] && !self.is_impossible(number);
+            self.same(format_args!("demand 3: number {number} reaches a front"), by_it, true)?;
         }
         Ok(numbers.iter().map(Option::is_some).collect())
     }
@@ -64,27 +66,40 @@ impl<S: Side> Comparison<'_, S> {
         let cut = cut_down.of(&antiscenario(sheet, number));
         let smallest = cut.iter().position(|&is_cut| is_cut).map(|index| cut_down.fronts[index].clone());
         let searched = self.found(number);
-        self.same(format_args!("demand 3: the search of number {number}"), searched, (0, smallest))?;
+        self.same(format_args!("demand 3: the search of number {number}"), &searched, &(0, smallest))?;
+        self.impossible_is_not_found(number, &searched.1)?;
         Ok(cut)
     }
 
-    /// Demand 3 from this side's own answers: the smallest that its searches of all its numbers find is what its check gives. Of many numbers a
-    /// sample, which finds nothing smaller.
+    /// Demand 3 from this side's own answers: the smallest that its searches of all its numbers find, none of them impossible, is what its check
+    /// gives. Of many numbers a sample, which finds nothing smaller.
     pub fn demand_3_alone(&mut self) -> Compared {
         if self.opened.sheet.is_err() || self.opened.log.is_err() {
             return Ok(());
         }
         let (count, given) = (self.side.read_sheet(&self.pair.sheet).count, self.given());
         if count <= MOST_EACH {
-            let smallest = (1..=count).filter_map(|number| self.found(number).1).min();
+            let smallest = self.smallest_found(count)?;
             return self.same("demand 3: the check and the searches of this side", given, smallest);
         }
         for number in self.numbers(SAMPLE) {
             let found = self.found(number).1;
+            self.impossible_is_not_found(number, &found)?;
             let is_due = found.is_none() || given.is_some() && found >= given;
             self.same(format_args!("demand 3: the check and the search of number {number} of this side"), is_due, true)?;
         }
         Ok(())
+    }
+
+    /// The smallest that the side's searches of numbers 1 to so many find, of which none is impossible.
+    fn smallest_found(&mut self, count: u64) -> Result<Option<Vec<u32>>, Mismatch> {
+        let mut smallest: Option<Vec<u32>> = None;
+        for number in 1..=count {
+            let found = self.found(number).1;
+            self.impossible_is_not_found(number, &found)?;
+            smallest = smallest.into_iter().chain(found).min();
+        }
+        Ok(smallest)
     }
 
     fn antecedent_points(&self) -> usize {

@@ -1,5 +1,6 @@
 //! Compares every operation of one side with the reference on one pair of a sheet and a log.
 mod demand_3;
+mod impossible;
 mod limits;
 mod tally;
 
@@ -187,6 +188,7 @@ impl<'a, S: Side> Comparison<'a, S> {
     fn at_random(&mut self) -> Compared {
         let arguments = arguments_of(self.seed, &self.opened);
         self.write_in(arguments.number, arguments.room)?;
+        self.ruling(arguments.number)?;
         self.search_in(arguments.number, arguments.places)?;
         self.judge_one(arguments.number, &arguments.table)
     }
@@ -199,6 +201,7 @@ impl<'a, S: Side> Comparison<'a, S> {
         self.at_random()?;
         for number in self.numbers(most_numbers) {
             self.writing(number)?;
+            self.ruling(number)?;
             let matching = self.searching(number)?;
             self.judging(number, matching)?;
         }
@@ -221,6 +224,7 @@ impl<'a, S: Side> Comparison<'a, S> {
         for number in self.each_number() {
             let points = self.point_count(number);
             self.write_in(number, self.text_length(number))?;
+            self.ruling(number)?;
             self.search_in(number, points)?;
             self.judge_one(number, &Table::of(&vec![1; points], 1))?;
         }

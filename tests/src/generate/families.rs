@@ -6,6 +6,7 @@ use crate::reference::log::{Line, Log};
 use crate::reference::sheet::{self, introduced, kind::*, Row, CLOSE, START};
 
 /// The texts of all sheets of a shape.
+#[derive(Clone)]
 pub struct Family {
     pub name: &'static str,
     pub sheets: Vec<Vec<u8>>,

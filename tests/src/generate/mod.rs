@@ -4,6 +4,7 @@ pub mod cases;
 pub mod chains;
 pub mod damage;
 pub mod families;
+pub mod joined;
 pub mod logs;
 pub mod pairs;
 pub mod rules;

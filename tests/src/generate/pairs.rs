@@ -1,5 +1,5 @@
 //! The pair of a seed.
-use super::{damage, logs, sheets, Pair};
+use super::{damage, joined, logs, sheets, Pair};
 use crate::random::Random;
 use crate::reference::blunder::Blunder;
 use crate::reference::far_end::far_end;
@@ -159,6 +159,19 @@ pub fn chained_pair_of(seed: u64) -> Pair {
     let wanted = if random.one_in(2) { Wanted::ShortDenial } else { any_wanted(&mut random) };
     let log = logs::random(&mut random, 6);
     Pair { sheet: sheet_for(&mut random, &sheets::CHAINS, wanted, &log), log: log.text() }
+}
+
+/// Document 02, A6: an accepted sheet with points joined, set apart and ordered, half of them such that the log has a matching of the antecedent.
+pub fn joined_pair_of(seed: u64) -> Pair {
+    let mut random = Random::new(seed);
+    let log = logs::random(&mut random, 4);
+    let wanted = random.pick(&[Wanted::Anything, Wanted::AntecedentMatched]);
+    let rows = (0..MOST_TRIES).map(|_| joined::random_rows(&mut random));
+    let mut sheets = rows.map(|(k, rows)| sheet::text(k, &rows));
+    let is_wanted = |text: &Vec<u8>| sheet::read(text, Blunder::None).is_ok_and(|sheet| is_as_wanted(wanted, &sheet, &log));
+    let first = sheets.next().expect("a sheet");
+    let sheet = [first.clone()].into_iter().chain(sheets).find(is_wanted).unwrap_or(first);
+    Pair { sheet, log: log.text() }
 }
 
 /// Document 02, A2: an accepted sheet whose consequents each speak of few of the antecedent's points, and a short log.

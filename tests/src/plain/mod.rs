@@ -2,6 +2,7 @@
 pub mod antiscenario;
 pub mod check;
 pub mod columns;
+pub mod impossible;
 pub mod log;
 pub mod maps;
 pub mod search;
@@ -51,6 +52,10 @@ fn draw_maps(sheet: &Sheet, log: &mut Log) {
 pub fn write(sheet: &[u8], number: u64, buffer: &mut [u8]) -> Result<usize, u32> {
     let antiscenario = numbered(&read_sheet(sheet)?, number)?;
     antiscenario.write(buffer).ok_or(BUFFER)
+}
+
+pub fn impossible(sheet: &[u8], number: u64) -> Result<bool, u32> {
+    Ok(impossible::is_impossible(numbered(&read_sheet(sheet)?, number)?.rows()))
 }
 
 /// How many places were filled, or none.
@@ -145,6 +150,13 @@ impl Side for Plain {
         match write(sheet, number, &mut buffer[GUARD..GUARD + room]) {
             Ok(length) => Written { answer: 0, buffer, length },
             Err(answer) => Written { answer, buffer, length: PATTERN_SIZE },
+        }
+    }
+
+    fn impossible(&self, sheet: &[u8], number: u64) -> Ruled {
+        match impossible(sheet, number) {
+            Ok(impossible) => Ruled { answer: 0, impossible: impossible.into() },
+            Err(answer) => Ruled { answer, impossible: PATTERN },
         }
     }
 

@@ -117,6 +117,80 @@ pub enum Blunder {
     NoLinesNoPlacement,
     /// A10: matchings that the check without a limit passes over are not counted.
     PassedOverUncounted,
+    /// A6: NEXT read as "p is lower than q".
+    NextTurned,
+    /// A6: LAST read as "q is lower than p".
+    LastTurned,
+    /// A6: EARLIER read as "lower than both".
+    EarlierAsOrder,
+    /// A6: LATER read as "higher than both".
+    LaterAsOrder,
+    /// A6: FREE p q read as "p is lower than q".
+    FreeAsOrder,
+    /// A6: WITHIN p q read so.
+    WithinAsOrder,
+    /// A6: APART p q read so.
+    ApartAsOrder,
+    /// A6: the order of BEFORE rows alone.
+    OrderOfBeforeAlone,
+    /// A6: "lower than" inside one point taken for no way back.
+    StepInsidePasses,
+    /// A6: ways back of one step or two alone.
+    TwoStepsBack,
+    /// A6: FREE's set counted as a set of its points.
+    FreeAsSet,
+    /// A6: the sets of EVENT rows not counted.
+    EventNotCounted,
+    /// A6: the BEFORE rows of a denial's own point not counted. (Its set alone decides nothing: it has an event, and SAME rows join it to no point.)
+    DenialPointNotCounted,
+    /// A6: the sets of NEXT and LAST rows not counted.
+    NextAndLastNotCounted,
+    /// A6: EVENT with the empty set passed over.
+    EmptySetPasses,
+    /// A6: the lower half of each set alone.
+    EventsBelow32,
+    /// A6: sets of which any two have an event in common passed over.
+    SetsByTwo,
+    /// A6: a point without a set taken for one that has no event.
+    WithoutSetImpossible,
+    /// A6: SAME p q joins p to q and not q to p.
+    JoinedOneWay,
+    /// A6: points joined by one SAME row alone.
+    JoinedWithoutChains,
+    /// A6: points joined within their section alone.
+    JoinedInSection,
+    /// A6: the start and the close joined.
+    EndsJoined,
+    /// A6: points joined in the rule of sets alone.
+    JoinedInSetsAlone,
+    /// A6: points joined in the rule of APART rows alone.
+    JoinedInApartAlone,
+    /// A6: points joined in the rule of order alone.
+    JoinedInOrderAlone,
+    /// A6: no rule of sets.
+    NoEventPasses,
+    /// A6: no rule of APART rows.
+    ApartPasses,
+    /// A6: no rule of order.
+    LeadingBackPasses,
+    /// A6: the antecedent's rows looked at alone.
+    AntecedentAlone,
+    /// A6: possible, whatever the rows are.
+    AlwaysPossible,
+    /// A6: impossible, whatever the rows are.
+    AlwaysImpossible,
+    /// A6: 31 for number N.
+    LastNumberRefused,
+    /// A6: number 0 taken as 1.
+    ZeroAccepted,
+    /// A6: m in 32 bits, for this operation alone.
+    RuledNumberIn32Bits,
+    /// A6: 31 for number 0 before the sheet's refusals.
+    ZeroBeforeSheet,
+    /// A6: "possible" written though the number is refused.
+    WrittenThoughRefused,
+    /// A6: nothing written for "possible".
+    PossibleUnwritten,
     /// No blunder: document 01 as it was before A1, with events up to 31 and sets of a alone. WITHIN is A9's, and denials are A8's.
     BeforeA1,
     /// No blunder: document 01 as it was before A9, with distances taken as exact. Events, sets, N and denials are those of A1, A4 and A8.
@@ -170,4 +244,49 @@ pub const IN_LIMITS: [Blunder; 19] = [
     Blunder::NoPointsNoPlacement,
     Blunder::NoLinesNoPlacement,
     Blunder::PassedOverUncounted,
+];
+
+/// Document 02, A6: slips in its rules, each of which answers otherwise for some antiscenario.
+pub const IN_CONTRADICTIONS: [Blunder; 31] = [
+    Blunder::NextTurned,
+    Blunder::LastTurned,
+    Blunder::EarlierAsOrder,
+    Blunder::LaterAsOrder,
+    Blunder::FreeAsOrder,
+    Blunder::WithinAsOrder,
+    Blunder::ApartAsOrder,
+    Blunder::OrderOfBeforeAlone,
+    Blunder::StepInsidePasses,
+    Blunder::TwoStepsBack,
+    Blunder::FreeAsSet,
+    Blunder::EventNotCounted,
+    Blunder::DenialPointNotCounted,
+    Blunder::NextAndLastNotCounted,
+    Blunder::EmptySetPasses,
+    Blunder::EventsBelow32,
+    Blunder::SetsByTwo,
+    Blunder::WithoutSetImpossible,
+    Blunder::JoinedOneWay,
+    Blunder::JoinedWithoutChains,
+    Blunder::JoinedInSection,
+    Blunder::EndsJoined,
+    Blunder::JoinedInSetsAlone,
+    Blunder::JoinedInApartAlone,
+    Blunder::JoinedInOrderAlone,
+    Blunder::NoEventPasses,
+    Blunder::ApartPasses,
+    Blunder::LeadingBackPasses,
+    Blunder::AntecedentAlone,
+    Blunder::AlwaysPossible,
+    Blunder::AlwaysImpossible,
+];
+
+/// Document 02, A6: slips in numbers and in what is written, each of which answers otherwise for some number.
+pub const IN_RULINGS: [Blunder; 6] = [
+    Blunder::LastNumberRefused,
+    Blunder::ZeroAccepted,
+    Blunder::RuledNumberIn32Bits,
+    Blunder::ZeroBeforeSheet,
+    Blunder::WrittenThoughRefused,
+    Blunder::PossibleUnwritten,
 ];

@@ -2,6 +2,7 @@
 use super::antiscenario::antiscenario;
 use super::blunder::Blunder;
 use super::cut::CutDown;
+use super::impossible::Pattern;
 use super::limited::{all_placements, placements_after, Course};
 use super::log::Log;
 use super::operations::{smallest_by_brute_force, verdict, violating, Verdict};
@@ -152,4 +153,19 @@ fn limits_are_those_of_brute_force() {
             assert_eq!((limited.verdict, limited.looked, limited.after), (due, looked as u64, after as u64));
         }
     }
+}
+
+/// Document 02, A6: every placement of what is impossible is tried, and none is a matching; often enough a set, an APART row or an order says so.
+#[test]
+fn impossible_antiscenarios_have_no_matching() {
+    let mut impossible = [0; 3];
+    for (sheet, log) in few_placements(17, 3000) {
+        for rows in first_antiscenarios(&sheet) {
+            let pattern = Pattern::new(&rows);
+            assert!(!pattern.is_impossible() || matchings(&rows, &log).is_empty());
+            let rules = [pattern.has_no_event(), pattern.is_apart_from_itself(), pattern.leads_back()];
+            impossible.iter_mut().zip(rules).for_each(|(count, rule)| *count += u64::from(rule));
+        }
+    }
+    assert!(impossible.iter().all(|count| *count > 50), "{impossible:?}");
 }

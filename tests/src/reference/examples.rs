@@ -109,3 +109,12 @@ fn logs_refused_and_accepted() {
     assert_eq!(log::read(&log_of(&vec![(1, 1); 4001]).text(), Blunder::None).unwrap_err().refusal, Refusal::LineCount);
     assert!(log::read(&log_of(&vec![(1, 1); 4000]).text(), Blunder::None).is_ok());
 }
+
+/// Document 02, A6: number 4 of S wants an injection after the scan and before the correction that is before it.
+#[test]
+fn number_4_of_sheet_s_is_impossible() {
+    let opened = pair(&sheet_s(), &[]);
+    assert_eq!([1, 2, 3, 4].map(|number| opened.impossible(number)), [Ok(false), Ok(false), Ok(false), Ok(true)]);
+    assert_eq!([0, 5, (1 << 32) + 1].map(|number| opened.impossible(number)), [Err(Refusal::Number); 3]);
+    assert_eq!(pair(b"", &[]).impossible(0), Err(Refusal::SheetFirstLine));
+}

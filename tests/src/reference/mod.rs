@@ -4,6 +4,8 @@ pub mod blunder;
 pub mod columns;
 pub mod cut;
 pub mod far_end;
+pub mod impossible;
+mod impossible_slips;
 mod limit_slips;
 pub mod limited;
 pub mod log;

@@ -6,29 +6,30 @@ use mathlib.Core.List.{List}
 use native.Mathlib.Omega.{arith}
 use Rattle.scenario.specs.Links.{Link, leads}
 use Rattle.row.specs.Memory.{lineIn}
-use Rattle.order.specs.Leading.{Tells, linksIn}
+use Rattle.links.specs.Table.{Tells}
+use Rattle.order.specs.Leading.{places, linksIn}
 use Rattle.order.proofs.Entering.{is-low, none-entered, other-section, other-kind, row-entered, all-entered}
 use borrow.Author.Needs.{needs}
 use Rattle.order.proofs.led_to.Statement.{statement}
 use Rattle.order.proofs.led_to.Tie as tie
 
 abbrev Inv-loop : tie.InvT-loop
-Inv-loop rows n section upward point table₀ i₀ table i = (i ≤ n) × Tells table (leads (linksIn rows section upward i (n - i)))
+Inv-loop rows n section upward point table₀ i₀ table i = (i ≤ n) × Tells places table (leads (linksIn rows section upward i (n - i)))
 
 abbrev μ-loop : tie.MeasureT-loop
 μ-loop rows n section upward point table₀ i₀ table i = i
 
 loop-holds : tie.Need-loop-holds Inv-loop μ-loop
-loop-holds c = (search needs, none-entered _ _ _ _ _ (c .begin .ensures))
+loop-holds c = (search needs, none-entered _ _ _ _ _ (c .before .begin .ensures))
 
 loop-again : tie.Need-loop-again Inv-loop μ-loop
 unfolding lineIn
 loop-again c =
     let t = c .before .before in
     let l = t .before .loop in
-    let a = t .before .before .before .before .before .args in
+    let a = t .before .before .before .before .before .before .args in
     let e = other-section (a .rows .now) (a .section) (a .upward) (l .i) (a .n) (t .loop-test .taken) (l .inv .0) (λ q. c .if1 .taken (c .before .section-of .ensures ∙ q)) in
-    (omega (arith, l .inv .0), subst (λ (ls : List Link). Tells (l .table) (leads ls)) (sym e) (l .inv .1))
+    (omega (arith, l .inv .0), subst (λ (ls : List Link). Tells places (l .table) (leads ls)) (sym e) (l .inv .1))
 
 loop-again-2 : tie.Need-loop-again-2 Inv-loop μ-loop
 unfolding lineIn
@@ -36,9 +37,9 @@ loop-again-2 c =
     let o = c .before .before in
     let t = o .before .before in
     let l = t .before .loop in
-    let a = t .before .before .before .before .before .args in
+    let a = t .before .before .before .before .before .before .args in
     let e = other-kind (a .rows .now) (a .section) (a .upward) (l .i) (a .n) (t .loop-test .taken) (l .inv .0) (sym (o .before .section-of .ensures) ∙ o .if1 .left) (λ q. c .if2 .taken (c .before .kind-of .ensures ∙ q)) in
-    (omega (arith, l .inv .0), subst (λ (ls : List Link). Tells (l .table) (leads ls)) (sym e) (l .inv .1))
+    (omega (arith, l .inv .0), subst (λ (ls : List Link). Tells places (l .table) (leads ls)) (sym e) (l .inv .1))
 
 enter-row-requires : tie.Need-enter-row-requires Inv-loop μ-loop
 enter-row-requires c κs = c .before .before .before .before .before .before .before .loop .inv .1 .size
@@ -64,6 +65,7 @@ led-to-spec =
     (tie.spec
     Inv-loop
     μ-loop
+    (λ c. search needs)
     (λ c κs. search needs)
     loop-holds
     (λ c. search needs)

@@ -12,10 +12,10 @@ returns c = let a = c .before .args in is-q (a .beyond) (a .ordered) (a .q) (a .
 returns-2 : tie.Need-returns-2
 returns-2 c =
     let a = c .before .before .before .before .args in
-    c .has2 .ensures ∙ as-ordered (a .beyond) (a .ordered) (a .q) (a .z) (c .before .before .before .if1 .left) (sym (c .before .before .has .ensures) ∙ c .before .if2 .taken)
+    c .member2 .ensures ∙ as-ordered (a .beyond) (a .ordered) (a .q) (a .z) (c .before .before .before .if1 .left) (sym (c .before .before .member .ensures) ∙ c .before .if2 .taken)
 
 returns-3 : tie.Need-returns-3
-returns-3 c = let a = c .before .before .before .args in not-beyond (a .beyond) (a .ordered) (a .q) (a .z) (sym (c .before .has .ensures) ∙ c .if2 .left)
+returns-3 c = let a = c .before .before .before .args in not-beyond (a .beyond) (a .ordered) (a .q) (a .z) (sym (c .before .member .ensures) ∙ c .if2 .left)
 
 pub may-end-spec : {M : Type 1} → statement M
 may-end-spec = tie.close (tie.spec returns (λ c κs. search needs) (λ c κs. search needs) returns-2 returns-3)

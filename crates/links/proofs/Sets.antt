@@ -10,6 +10,6 @@ use lib.Pow.{pow-lt}
 pub doubled : (x : ℕ) → 2 ^ x * 2 ≡ 2 ^ (x + 1)
 doubled x = rw (add-one x) (omega (arith, pow-succ' 2 x))
 
--- they are numbers of 32 bits
-pub small : (x : ℕ) → x < 20 → 2 ^ x < 2147483648
-small x h = pow-lt {i = x} {j = 31} (omega arith)
+-- they are numbers of 64 bits
+pub small : (x : ℕ) → x < 60 → 2 ^ x < 9223372036854775808
+small x h = pow-lt {i = x} {j = 63} (omega arith)

@@ -5,24 +5,24 @@ use Prim.Native.Nat.{ℕ, _*_, _-_, _^_, _≤_, _<_}
 use native.Mathlib.Omega.{arith}
 use lib.ListN.{length, getD, length-set}
 use Rattle.scenario.specs.Log.{inSet}
-use Rattle.row.proofs.Memory.{filled-more}
 use Rattle.scenario.proofs.Sets.{inSet-one}
-use Rattle.order.proofs.Sets.{doubled, small}
+use Rattle.scenario.proofs.Base.{filled-more}
+use Rattle.links.proofs.Sets.{doubled, small}
 use borrow.Author.Needs.{needs}
-use Rattle.order.proofs.begin.Statement.{statement}
-use Rattle.order.proofs.begin.Tie as tie
+use Rattle.links.proofs.begin.Statement.{statement}
+use Rattle.links.proofs.begin.Tie as tie
 
 abbrev Inv-loop : tie.InvT-loop
-Inv-loop table₀ x₀ alone₀ table x alone = (x ≤ 20) × (length table ≡ length table₀) × (alone ≡ 2 ^ x) × ((i : ℕ) → i < x → getD table i 0 ≡ 2 ^ i)
+Inv-loop table₀ x₀ alone₀ table x alone = (x ≤ length table₀) × (length table ≡ length table₀) × (alone ≡ 2 ^ x) × ((i : ℕ) → i < x → getD table i 0 ≡ 2 ^ i)
 
 abbrev μ-loop : tie.MeasureT-loop
-μ-loop table₀ x₀ alone₀ table x alone = 20 - x
+μ-loop table₀ x₀ alone₀ table x alone = length table₀ - x
 
 loop-holds : tie.Need-loop-holds Inv-loop μ-loop
 loop-holds c = (search needs, refl, refl, λ i h. absurd (omega arith))
 
 mul-alone : tie.Need-mul-alone Inv-loop μ-loop
-mul-alone c = let l = c .before .loop in record { fits = omega (arith, l .inv .2, small (l .x) (c .loop-test .taken)) }
+mul-alone c = let l = c .before .loop in record { fits = omega (arith, l .inv .2, small (l .x) (omega (arith, c .loop-test .taken, l .inv .1, c .before .before .pre))) }
 
 loop-again : tie.Need-loop-again Inv-loop μ-loop
 loop-again c =
@@ -36,7 +36,7 @@ loop-again c =
 returns : tie.Need-returns Inv-loop μ-loop
 returns c =
     let l = c .before .loop in record {
-      size = l .inv .1 ∙ c .before .before .pre;
+      size = l .inv .1;
       tells = λ x y h k. ap (λ (s : ℕ). inSet s y) (l .inv .3 x (search needs)) ∙ inSet-one x y;
     }
 
@@ -53,4 +53,5 @@ begin-spec =
     (λ c. search needs)
     (λ c. search needs)
     loop-again
+    (λ c. search needs)
     returns)

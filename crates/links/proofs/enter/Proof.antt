@@ -2,22 +2,22 @@
 -- Assumes nothing.
 use mathlib.Core.Path.{_≡_, refl, ap, _∙_}
 use mathlib.Core.Bool.{_&&_, _||_}
-use Prim.Native.Nat.{ℕ, _+_, _-_, _≤_, _<_}
+use Prim.Native.Nat.{ℕ, _-_, _≤_, _<_}
 use native.Mathlib.Omega.{arith}
 use lib.ListN.{length, getD, length-set}
 use lib.Seq.{getD-set-other}
 use Rattle.scenario.specs.Log.{inSet}
-use Rattle.order.specs.Leading.{told, entered}
-use Rattle.row.proofs.Memory.{filled-more}
+use Rattle.scenario.proofs.Base.{filled-more}
+use Rattle.links.specs.Table.{told, entered}
 use borrow.Author.Needs.{needs}
-use Rattle.order.proofs.enter.Statement.{statement}
-use Rattle.order.proofs.enter.Tie as tie
+use Rattle.links.proofs.enter.Statement.{statement}
+use Rattle.links.proofs.enter.Tie as tie
 
 abbrev Inv-loop : tie.InvT-loop
-Inv-loop table₀ from to beyond x₀ table x = (x ≤ 20) × (length table ≡ length table₀) × ((i : ℕ) → i < x → (y : ℕ) → told table i y ≡ entered table₀ from to i y) × ((i : ℕ) → x ≤ i → getD table i 0 ≡ getD table₀ i 0)
+Inv-loop table₀ from to beyond x₀ table x = (x ≤ length table₀) × (length table ≡ length table₀) × ((i : ℕ) → i < x → (y : ℕ) → told table i y ≡ entered table₀ from to i y) × ((i : ℕ) → x ≤ i → getD table i 0 ≡ getD table₀ i 0)
 
 abbrev μ-loop : tie.MeasureT-loop
-μ-loop table₀ from to beyond x₀ table x = 20 - x
+μ-loop table₀ from to beyond x₀ table x = length table₀ - x
 
 loop-holds : tie.Need-loop-holds Inv-loop μ-loop
 loop-holds c = (search needs, refl, λ i h. absurd (omega arith), λ i h. refl)
@@ -25,7 +25,7 @@ loop-holds c = (search needs, refl, λ i h. absurd (omega arith), λ i h. refl)
 loop-again : tie.Need-loop-again Inv-loop μ-loop
 loop-again c =
     let l = c .before .before .before .loop in
-    let a = c .before .before .before .before .before .args in
+    let a = c .before .before .before .before .before .before .args in
     let v = c .onward .result in (
       search needs,
       length-set (l .table) (l .x) v ∙ l .inv .1,
@@ -37,7 +37,7 @@ loop-again c =
 returns : tie.Need-returns Inv-loop μ-loop
 returns c =
     let l = c .before .loop in record {
-      size = l .inv .1 ∙ c .before .before .before .pre .0;
+      size = l .inv .1;
       tells = λ x y h k. l .inv .2 x (search needs) y;
     }
 
@@ -58,4 +58,5 @@ enter-spec =
     (λ c. search needs)
     (λ c. search needs)
     loop-again
+    (λ c. search needs)
     returns)

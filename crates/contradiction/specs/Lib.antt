@@ -1,0 +1,4 @@
+pub mod Impossible
+pub mod Ruling
+pub mod Demands
+pub mod Table
