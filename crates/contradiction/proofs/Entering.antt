@@ -69,7 +69,7 @@ one-more f i n l h = let k : n - (i - 1) ≡ suc (n - i) = omega arith in let j 
 pub all-listed : (f : ℕ → Row) (i n : ℕ) → i ≤ 0 → listed f i (n - i) ≡ listed f 0 n
 all-listed f i n h = let e : i ≡ 0 = omega arith in let w : n - 0 ≡ n = omega arith in ap (λ (j : ℕ). listed f j (n - j)) e ∙ ap (listed f 0) w
 
-map-both : (f : Link → Link) (ks ls : List Link) → map f (ks ++ ls) ≡ map f ks ++ map f ls
+pub map-both : (f : Link → Link) (ks ls : List Link) → map f (ks ++ ls) ≡ map f ks ++ map f ls
 map-both f [] ls = refl
 map-both f (k ∷ ks) ls = ap (λ (z : List Link). f k ∷ z) (map-both f ks ls)
 

@@ -2,7 +2,7 @@
 -- Assumes nothing.
 use mathlib.Core.Path.{_≡_, refl, sym, ap, ap₂, _∙_, subst}
 use mathlib.Core.Bool.{Bool, true, false, not, _||_}
-use mathlib.Core.List.{List, [], _∷_, _++_, map}
+use mathlib.Core.List.{List, _++_, map}
 use Prim.Native.Nat.{ℕ}
 use native.Mathlib.Omega.{arith}
 use lib.Dec.{eqb}
@@ -19,6 +19,7 @@ use Rattle.contradiction.specs.Impossible.{SetFor, part, joins, lowers, 
 use Rattle.contradiction.specs.Table.{places, place, Here, Placed, linksOf, leadsIn, sharedIn, torn, circling, contradicting}
 use Rattle.contradiction.proofs.Tests.{any-same, all-same, any-or, any-gather, below-same}
 use Rattle.contradiction.proofs.Places.{place-low, links-low, one-place}
+use Rattle.contradiction.proofs.Entering.{map-both}
 
 -- The points of what a row says have places of their own
 
@@ -54,10 +55,6 @@ module _ (t0 t1 : List ℕ) (ks : List Link) where
       let t = links-entered places eqb t0 t1 (map (placed place) ks) (links-low ks) b e in
       record { size = t .size; tells = λ x y h k. t .tells x y h k ∙ leads-on-eqb (map (placed place) ks) x y }
 
-map-both : (ls ks : List Link) → map (placed place) ls ++ map (placed place) ks ≡ map (placed place) (ls ++ ks)
-map-both [] ks = refl
-map-both (l ∷ ls) ks = ap (λ (z : List Link). placed place l ∷ z) (map-both ls ks)
-
 -- and others into that one
 more-links : (t0 t1 t2 : List ℕ) (ks ls : List Link) → Tells places t0 eqb → Tells places t1 (leads-on (told t0) (map (placed place) ks))
     → Tells places t2 (leads-on (told t1) (map (placed place) ls)) → Tells places t2 (leads (map (placed place) (ls ++ ks)))
@@ -65,7 +62,7 @@ more-links t0 t1 t2 ks ls b e f =
     let s = links-entered places eqb t0 t1 (map (placed place) ks) (links-low ks) b e in
     let t = links-entered places (leads-on eqb (map (placed place) ks)) t1 t2 (map (placed place) ls) (links-low ls) s f in
     let u = subst (Tells places t2) (leads-on-append eqb (map (placed place) ls) (map (placed place) ks)) t in
-    subst (λ (ms : List Link). Tells places t2 (leads ms)) (map-both ls ks)
+    subst (λ (ms : List Link). Tells places t2 (leads ms)) (sym (map-both (placed place) ls ks))
     (record { size = u .size; tells = λ x y h k. u .tells x y h k ∙ leads-on-eqb (map (placed place) ls ++ map (placed place) ks) x y })
 
 module _ (rows : List Row) (here : All Placed rows) where

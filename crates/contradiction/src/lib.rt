@@ -172,6 +172,7 @@ fn circling(table: &[u64; PLACES], row: pattern::Row) -> bool
     false
 }
 
+// Whether a row tells that no run can meet the rows: by where points are joined, or by where lower ones lead.
 fn contradicting(
     table: &[u64; PLACES],
     rows: &[u32; pattern::ROWS_ROOM],
