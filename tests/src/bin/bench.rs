@@ -224,6 +224,25 @@ fn rule_all() {
     }
 }
 
+/// All numbers on 4,000 lines; and the same where those that are impossible are passed over.
+fn search_possible() {
+    if !OF_THIS_TREE {
+        return;
+    }
+    let (sheet, log, places) = (many_antiscenarios(), mixed_text(4000), RefCell::new([0; 58]));
+    let search_ours = |number: u64| keep(Host.search_into(&sheet, black_box(&log), number, &mut *places.borrow_mut()));
+    let search_plain = |number: u64| keep(plain::search(&sheet, black_box(&log), number, &mut *places.borrow_mut()));
+    let is_possible = |side: &dyn Side, number: u64| side.impossible(&sheet, number).impossible == 0;
+    let all = both(|| (1..=4096).for_each(search_ours), || (1..=4096).for_each(search_plain));
+    Table::new().line("search all of N = 4,096", 4000, all);
+    let possible = both(
+        || (1..=4096).filter(|&number| is_possible(&Host, number)).for_each(search_ours),
+        || (1..=4096).filter(|&number| is_possible(&Plain, number)).for_each(search_plain),
+    );
+    let count = (1..=4096).filter(|&number| is_possible(&Host, number)).count();
+    Table::new().line(&format!("search those possible ({count})"), 4000, possible);
+}
+
 /// The search of these numbers, one after another, on logs of each size.
 fn search(name: &str, sheet: &[u8], numbers: RangeInclusive<u64>, log: impl Fn(u32) -> Vec<u8>) {
     let mut table = Table::new();
@@ -382,7 +401,8 @@ fn main() {
     }
     Table::heading();
     if word == "impossible" {
-        return rule_all();
+        rule_all();
+        return search_possible();
     }
     if word == "check" {
         check_standing_measures();
