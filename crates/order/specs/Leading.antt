@@ -10,9 +10,9 @@ use Rattle.scenario.specs.Log.{inSet}
 use Rattle.row.specs.declared.Line.{Line}
 use Rattle.row.specs.Memory.{lineIn}
 
--- places for the points that the rows of one section may use
+-- the places of the table; the points that the rows of one section may use have those below 20
 abbrev pub places : ℕ
-places = 20
+places = 60
 
 -- the place of a point: that of the antecedent's 1 to 4 is its number, that of a section's point 10i + t is 10 + t
 unfoldable pub place : ℕ → ℕ

@@ -7,8 +7,8 @@ ghost use Rattle.links.specs.Table.{Tells, entered};
 ghost use Rattle.order.specs.Leading.{place as placeOf, places, linkOf, linksIn, Led};
 ghost use Rattle.order.specs.Ending.{antecedent-points, mayEnd, InOrder, endIn, farIn};
 
-// Places for the points that the rows of one section may use.
-const PLACES: usize = 20;
+// Places for the points that the rows of one section may use. 20 would do, but a table of 20 words is kept in registers, which every row that is passed over pays for.
+const PLACES: usize = links::MOST_PLACES;
 
 // Kinds of row.
 const NEXT: u32 = 2;
