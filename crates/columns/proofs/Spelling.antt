@@ -177,7 +177,7 @@ digits_of {p} {v} D (b ∷ d) h l =
     let e : 48 + (b - 48) ≡ b = omega arith in
     let ne : v * 10 + (b - 48) ≡ 0 → ⊥ = λ q. l (omega arith) (omega arith) in
     let E : Digits (p ++ (b ∷ [])) (v * 10 + (b - 48)) = subst (λ (x : ℕ). Digits (p ++ (x ∷ [])) (v * 10 + (b - 48))) e (more (b - 48) D (omega arith) ne) in
-    subst (λ (x : List ℕ). Digits x (decimal (v * 10 + (b - 48)) d)) (append_assoc p (b ∷ []) d) (digits_of E d z.1 (λ q. absurd (ne q)))
+    subst (λ (x : List ℕ). Digits x (decimal (v * 10 + (b - 48)) d)) (append_assoc p (b ∷ []) d) (digits_of {p = p ++ (b ∷ [])} {v = v * 10 + (b - 48)} E d z.1 (λ q. absurd (ne q)))
 
 record Split (t : List ℕ) : Type 0 where
   m : ℕ
