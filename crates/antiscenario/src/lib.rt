@@ -1,11 +1,13 @@
 // An antiscenario by its number: its rows in memory, its text, and whether a placement is a matching of it.
+#![tactic(auto)]
+
 ghost use Rattle.std.specs.Prelude.{◌≡◌, List, ℕ, ◌≤◌, length, get_or, take};
 ghost use Rattle.run.specs.Words.{run_room};
 ghost use Rattle.sheet.specs.Held.{sheet_at, SheetLoaded};
 ghost use Rattle.antiscenario.specs.Numbers.{number_refusal, text_refusal};
 ghost use Rattle.antiscenario.specs.Held.{AntiscenarioHeld, TextHeld, Ready};
 ghost use Rattle.antiscenario.specs.Write.{no_text, write_of, after_write};
-ghost use Rattle.antiscenario.specs.Judge.{refusal_of, unjudged as unjudgedOf, judge_of};
+ghost use Rattle.antiscenario.specs.Judge.{refusal_of, unjudged as unjudged_of, judge_of};
 
 // Document 01's refusals of its own: "31 m not in 1 to N", "32 buffer too short", "34 number of positions not the number of points".
 const NO_SUCH_NUMBER: u32 = 31;
@@ -155,7 +157,7 @@ pub struct Judged {
 }
 
 fn unjudged(refusal: u32) -> Judged
-    ensures { result ≡ unjudgedOf refusal }
+    ensures { result ≡ unjudged_of refusal }
 {
     Judged {
         refusal,

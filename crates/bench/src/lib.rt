@@ -1,5 +1,7 @@
 // The C interface, a static library: each operation of document 01 for a host. Its answer is one number, its findings go to the
 // caller's memory, and a refusal writes nowhere. include/satskhubo.h says the same to the host's author.
+#![tactic(auto)]
+
 ghost use Rattle.std.specs.Prelude.{◌≡◌, false, ◌-◌, ◌≤◌, length};
 ghost use Rattle.columns.specs.Number.{field_at};
 ghost use Rattle.columns.specs.Entry.{entry_of, entered};

@@ -1,4 +1,6 @@
 // Numbers in columns: the reader of a field of any width, and the writer.
+#![tactic(auto)]
+
 ghost use Rattle.std.specs.Prelude.{◌≡◌, true, ◌++◌, ◌+◌, ◌≤◌, length, take, drop};
 ghost use Rattle.columns.specs.Number.{after_spaces, numeral, field_at};
 ghost use Rattle.columns.specs.Spell.{last_byte, left_byte, spell, fits_in};

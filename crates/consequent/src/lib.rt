@@ -1,4 +1,6 @@
 // The walk over a consequent: a row further, and the first row that cannot be met.
+#![tactic(auto)]
+
 ghost use Rattle.std.specs.Prelude.{◌≡◌, not, cond, ℕ, ◌≤◌, ◌<◌, length, set, replicate, eqb};
 ghost use Rattle.scenario.specs.Reading.{point_numbers};
 ghost use Rattle.run.specs.Held.{Held, run_held};

@@ -1,4 +1,6 @@
 // Whether rows in memory contradict each other, so that no run can meet them. Document 02, A6.
+#![tactic(auto)]
+
 ghost use Rattle.std.specs.Prelude.{◌≡◌, map, ◌≤◌, ◌<◌, length};
 ghost use Rattle.scenario.specs.Rows.{gather};
 ghost use Rattle.scenario.specs.Fields.{decode};
@@ -6,7 +8,7 @@ ghost use Rattle.scenario.specs.Reading.{All};
 ghost use Rattle.row.specs.Memory.{row_at, rows_of};
 ghost use Rattle.links.specs.Table.{Tells, told, leads_on, placed};
 ghost use Rattle.impossibility.specs.Impossible.{sets, any, impossible};
-ghost use Rattle.contradiction.specs.Table.{places, place as place_of, Placed, link_if, links_of, upward as upwardOf, downward as downwardOf, asking as askingOf, leads_in, Narrowed, Common, torn as tornOf, circling as circlingOf, contradicting as contradictingOf, KnownKinds};
+ghost use Rattle.contradiction.specs.Table.{places, place as place_of, Placed, link_if, links_of, upward as upward_of, downward as downward_of, asking as asking_of, leads_in, Narrowed, Common, torn as torn_of, circling as circling_of, contradicting as contradicting_of, KnownKinds};
 
 // Places for the points of an antiscenario: 0, the antecedent's four, nine a section, 99.
 const PLACES: usize = links::MOST_PLACES;
@@ -41,7 +43,7 @@ fn place(point: u32) -> u32
 
 // Whether a row's p leads to its q: by SAME where points are joined, else by BEFORE and LAST, read as "lower than".
 fn upward(kind: u32, joining: bool) -> bool
-    ensures { result ≡ upwardOf joining kind }
+    ensures { result ≡ upward_of joining kind }
 {
     if joining {
         return kind == SAME;
@@ -51,7 +53,7 @@ fn upward(kind: u32, joining: bool) -> bool
 
 // Whether a row's q leads to its p: by SAME, which goes both ways, else by NEXT.
 fn downward(kind: u32, joining: bool) -> bool
-    ensures { result ≡ downwardOf joining kind }
+    ensures { result ≡ downward_of joining kind }
 {
     if joining {
         return kind == SAME;
@@ -61,7 +63,7 @@ fn downward(kind: u32, joining: bool) -> bool
 
 // Whether a row asks a set of its p: EVENT, or POINT, NEXT or LAST.
 fn asking(kind: u32) -> bool
-    ensures { result ≡ askingOf kind }
+    ensures { result ≡ asking_of kind }
 {
     if kind == EVENT {
         return true;
@@ -143,7 +145,7 @@ fn common(table: &[u64; PLACES], rows: &[u32; pattern::ROWS_ROOM], n: u32, p: u3
 // event in common.
 fn torn(table: &[u64; PLACES], rows: &[u32; pattern::ROWS_ROOM], n: u32, j: u32) -> bool
     requires { (n ≤ 200) × (j < n) × KnownKinds rows.now n }
-    ensures { result ≡ tornOf table.now (rows_of rows.now n) (row_at rows.now j) }
+    ensures { result ≡ torn_of table.now (rows_of rows.now n) (row_at rows.now j) }
 {
     let line = row::line_at(rows, j as usize);
     if line.kind == APART {
@@ -157,7 +159,7 @@ fn torn(table: &[u64; PLACES], rows: &[u32; pattern::ROWS_ROOM], n: u32, j: u32)
 
 // Whether a row tells, by where lower points lead, that no run can meet the rows: from its higher point back to its lower one.
 fn circling(table: &[u64; PLACES], row: pattern::Row) -> bool
-    ensures { result ≡ circlingOf table.now (decode row.kind row.p row.q row.a row.b row.set) }
+    ensures { result ≡ circling_of table.now (decode row.kind row.p row.q row.a row.b row.set) }
 {
     if upward(row.kind, false) {
         return leads(table, row.q, row.p);
@@ -177,7 +179,7 @@ fn contradicting(
     joining: bool,
 ) -> bool
     requires { (n ≤ 200) × (j < n) × KnownKinds rows.now n }
-    ensures { result ≡ contradictingOf table.now (rows_of rows.now n) joining (row_at rows.now j) }
+    ensures { result ≡ contradicting_of table.now (rows_of rows.now n) joining (row_at rows.now j) }
 {
     if joining {
         return torn(table, rows, n, j);
@@ -188,7 +190,7 @@ fn contradicting(
 // Whether some row tells that no run can meet the rows.
 fn some_row(table: &[u64; PLACES], rows: &[u32; pattern::ROWS_ROOM], n: u32, joining: bool) -> bool
     requires { (n ≤ 200) × KnownKinds rows.now n }
-    ensures { result ≡ any (contradictingOf table.now (rows_of rows.now n) joining) (rows_of rows.now n) }
+    ensures { result ≡ any (contradicting_of table.now (rows_of rows.now n) joining) (rows_of rows.now n) }
 {
     let mut j: u32 = 0;
     while j < n {

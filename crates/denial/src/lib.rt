@@ -1,4 +1,6 @@
 // The denials of a row, each with what it brings and its own rows; and the rows of antiscenario m, one denial of each consequent, in memory.
+#![tactic(auto)]
+
 ghost use Rattle.std.specs.Prelude.{◌≡◌, [], ◌∷◌, ◌+◌, ◌*◌, ◌≤◌, ◌<◌, length};
 ghost use Rattle.rules.specs.Numbers.{most_consequents, most_rows};
 ghost use Rattle.sheet.specs.Numbers.{sheet_room};

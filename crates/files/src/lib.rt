@@ -1,4 +1,6 @@
 // Files for the programs: one that is named, or the one that an argument names, read whole into lent memory.
+#![tactic(auto)]
+
 ghost use Rattle.std.specs.Prelude.{◌≤◌, length};
 
 // A file that was read, and how many bytes it has; or one that cannot be read.

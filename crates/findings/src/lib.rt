@@ -1,4 +1,6 @@
 // A check's answer for a host: its number, and its findings in the caller's memory.
+#![tactic(auto)]
+
 ghost use Rattle.std.specs.Prelude.{◌≡◌, false, ◌≤◌, length};
 ghost use Rattle.findings.specs.Findings.{host_number, when_violated, fronted};
 

@@ -1,4 +1,6 @@
 // The introducing rows that a denial brings: of the points that its row uses, and of the points those need in turn.
+#![tactic(auto)]
+
 ghost use Rattle.std.specs.Prelude.{◌≡◌, true, ◌+◌, ◌*◌, ◌-◌, ◌≤◌, ◌<◌, length, get_or, set, eqb};
 ghost use Rattle.rules.specs.Numbers.{most_rows};
 ghost use Rattle.row.specs.Memory.{lay, line_in};

@@ -1,4 +1,6 @@
 // Show the line: the part of the sheet or of the log that the check's refusal is about.
+#![tactic(auto)]
+
 ghost use Rattle.std.specs.Prelude.{◌≡◌, ◌≤◌, min, length};
 ghost use Rattle.line.specs.Showing.{part, line_part, part_of, shown_line, Inside, Stands};
 

@@ -1,4 +1,6 @@
 // Where links lead: a table of sets of places, a word to a place, into which links are entered one after another.
+#![tactic(auto)]
+
 ghost use Rattle.std.specs.Prelude.{◌≤◌, ◌<◌, length, eqb};
 ghost use Rattle.links.specs.Table.{most_places, Tells, Onward, entered};
 

@@ -1,4 +1,6 @@
 // Where the BEFORE rows of a section lead, by a table of sets of points, one word a point; and with it the far end of a missing point.
+#![tactic(auto)]
+
 ghost use Rattle.std.specs.Prelude.{◌≡◌, ◌*◌, ◌≤◌, ◌<◌, length};
 ghost use Rattle.scenario.specs.Rows.{first_or};
 ghost use Rattle.links.specs.Table.{Tells, entered};

@@ -1,4 +1,6 @@
 // A sheet and a log in memory, read one after the other; and the plan for the antecedent, by which its matchings are gone through.
+#![tactic(auto)]
+
 ghost use Rattle.std.specs.Prelude.{◌≡◌, ℕ, ◌≤◌, length, get_or};
 ghost use Rattle.rules.specs.Numbers.{most_rows};
 ghost use Rattle.run.specs.Words.{run_room};

@@ -1,6 +1,8 @@
 // Rows over a log in memory: when a placement meets a row, the points of rows, and when a placement is a matching of them.
+#![tactic(auto)]
+
 ghost use Rattle.std.specs.Prelude.{◌≡◌, ◌&&◌, ◌≤◌, ◌<◌, length, get_or, take, ltb, leb};
-ghost use Rattle.scenario.specs.Rows.{set_of as setOf, clear as clearOf, meets as meetsOf, points as points_of};
+ghost use Rattle.scenario.specs.Rows.{set_of as set_of, clear as clear_of, meets as meets_of, points as points_of};
 ghost use Rattle.scenario.specs.Log.{has_at};
 ghost use Rattle.scenario.specs.Sheet.{all, matching};
 ghost use Rattle.scenario.specs.Reading.{Pattern, most_points};
@@ -46,7 +48,7 @@ pub fn at(positions: &[u32], p: u32) -> u32
 
 // "The set is a + 2^32 × b."
 pub fn set_of(a: u32, b: u32) -> u64
-    ensures { result ≡ setOf a b }
+    ensures { result ≡ set_of a b }
 {
     a as u64 + run::UPPER_ONE * b as u64
 }
@@ -72,7 +74,7 @@ pub fn row_at(rows: &[u32; ROWS_ROOM], j: u32) -> Row
 // Whether x is the first position after y with its event in s.
 fn follows(run: &[u64; run::ROOM], s: u64, x: u32, y: u32) -> bool
     requires { Held run.now }
-    ensures { result ≡ (ltb y x && has_at (part (events_in run.now) (line_count run.now)) s x && clearOf (bare (events_in run.now) (line_count run.now)) s y x) }
+    ensures { result ≡ (ltb y x && has_at (part (events_in run.now) (line_count run.now)) s x && clear_of (bare (events_in run.now) (line_count run.now)) s y x) }
 {
     if x <= y {
         return false;
@@ -86,7 +88,7 @@ fn follows(run: &[u64; run::ROOM], s: u64, x: u32, y: u32) -> bool
 // Whether x is the last position before y with its event in s.
 fn precedes(run: &[u64; run::ROOM], s: u64, x: u32, y: u32) -> bool
     requires { Held run.now }
-    ensures { result ≡ (ltb x y && has_at (part (events_in run.now) (line_count run.now)) s x && clearOf (bare (events_in run.now) (line_count run.now)) s x y) }
+    ensures { result ≡ (ltb x y && has_at (part (events_in run.now) (line_count run.now)) s x && clear_of (bare (events_in run.now) (line_count run.now)) s x y) }
 {
     if y <= x {
         return false;
@@ -135,7 +137,7 @@ pub fn meets(
     j: u32,
 ) -> bool
     requires { Held run.now × (j < 200) }
-    ensures { result ≡ meetsOf (run_held run.now) (by positions.now) (row_at rows.now j) }
+    ensures { result ≡ meets_of (run_held run.now) (by positions.now) (row_at rows.now j) }
 {
     let row = row_at(rows, j);
     let kind = row.kind;
@@ -223,7 +225,7 @@ fn all_met(
     count: u32,
 ) -> bool
     requires { Held run.now × (count ≤ 200) }
-    ensures { result ≡ all (meetsOf (run_held run.now) (by positions.now)) (rows_of rows.now count) }
+    ensures { result ≡ all (meets_of (run_held run.now) (by positions.now)) (rows_of rows.now count) }
 {
     let mut j: u32 = 0;
     while j < count {

@@ -1,4 +1,6 @@
 // The places that a search is lent: the positions of a pattern's points, in order.
+#![tactic(auto)]
+
 ghost use Rattle.std.specs.Prelude.{◌≡◌, map, ◌++◌, ◌≤◌, length, drop, take};
 ghost use Rattle.scenario.specs.Reading.{most_points};
 ghost use Rattle.pattern.specs.Placing.{by};

@@ -1,4 +1,6 @@
 // What the program prints of a check.
+#![tactic(auto)]
+
 ghost use Rattle.std.specs.Prelude.{◌≡◌, ◌+◌, ◌≤◌, length};
 ghost use Rattle.columns.specs.Ink.{inked};
 ghost use Rattle.report.specs.Printing.{InColumns, line_text, verdict_number, report_of};

@@ -1,4 +1,6 @@
 // A row: its six numbers, read from 35 bytes and kept in memory.
+#![tactic(auto)]
+
 ghost use Rattle.std.specs.Prelude.{◌≡◌, ◌+◌, ◌*◌, ◌≤◌, length, set};
 ghost use Rattle.row.specs.Row.{line_of};
 ghost use Rattle.row.specs.Memory.{put, line_in, section_at, kind_at, p_at, q_at, a_at, b_at};

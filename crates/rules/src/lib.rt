@@ -1,4 +1,6 @@
 // The rules of one row, in the order of document 01: refusals 5 to 10, and where a reading stands before and after it.
+#![tactic(auto)]
+
 ghost use Rattle.std.specs.Prelude.{◌≡◌, ◌≤◌};
 ghost use Rattle.rules.specs.Numbers.{most_consequents, most_rows};
 ghost use Rattle.rules.specs.Rules.{enter, advance, ordinary, known, kind_fits, p_fits, origin_fits, q_fits, rest_fits, room_fits, refusal_within, refusal, is_due, both_ordinary, ordinary_but, known_but, set_only, both_zero};

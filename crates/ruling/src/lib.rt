@@ -1,6 +1,8 @@
 // Whether antiscenario `number` of a sheet is impossible: its rows contradict each other. Document 02, A6.
+#![tactic(auto)]
+
 ghost use Rattle.std.specs.Prelude.{◌≡◌};
-ghost use Rattle.ruling.specs.Ruling.{unruled as unruledOf, impossible_of, RulingSays};
+ghost use Rattle.ruling.specs.Ruling.{unruled as unruled_of, impossible_of, RulingSays};
 
 // What the operation says: the refusal, or 0 and whether the antiscenario is impossible.
 #[derive(Drop)]
@@ -10,7 +12,7 @@ pub struct Ruled {
 }
 
 fn unruled(refusal: u32) -> Ruled
-    ensures { result ≡ unruledOf refusal }
+    ensures { result ≡ unruled_of refusal }
 {
     Ruled {
         refusal,

@@ -1,6 +1,8 @@
 // A run in memory, one array: of each position its tick and its event, of each event a map of the lines that have it, and the number of lines.
+#![tactic(auto)]
+
 ghost use Rattle.std.specs.Prelude.{◌≡◌, ◌+◌, ◌*◌, ◌<◌, ◌-◌, min, max, get_or, set};
-ghost use Rattle.scenario.specs.Rows.{set_of, lower_half as lowerOf, upper_half as upperOf};
+ghost use Rattle.scenario.specs.Rows.{set_of, lower_half as lower_of, upper_half as upper_of};
 ghost use Rattle.scenario.specs.Log.{in_set, has_at, gap, sure};
 ghost use Rattle.run.specs.Words.{position_count, ticks_in, events_in, line_count};
 ghost use Rattle.run.specs.Held.{Held, part, tick_of, near_of, Before};
@@ -22,13 +24,13 @@ const LINES: usize = 8099;
 
 // The two halves of a word.
 fn lower_half(word: u64) -> u32
-    ensures { result ≡ lowerOf word }
+    ensures { result ≡ lower_of word }
 {
     (word % UPPER_ONE) as u32
 }
 
 fn upper_half(word: u64) -> u32
-    ensures { result ≡ upperOf word }
+    ensures { result ≡ upper_of word }
 {
     (word / UPPER_ONE) as u32
 }

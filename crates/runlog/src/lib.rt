@@ -1,4 +1,6 @@
 // Reading a log (document 01, "Read a log": 21 to 27) into memory.
+#![tactic(auto)]
+
 ghost use Rattle.std.specs.Prelude.{◌≡◌, ℕ, ◌+◌, ◌*◌, ◌≤◌, length, get_or};
 ghost use Rattle.scenario.specs.Log.{most_lines};
 ghost use Rattle.run.specs.Words.{run_room};

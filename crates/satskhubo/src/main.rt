@@ -1,5 +1,7 @@
 // The program: checks the log of a run against a sheet, and prints the refusal, the verdict and, when violated, where.
 // It reads the files sheet and log, or the two that its arguments name.
+#![tactic(auto)]
+
 ghost use Rattle.std.specs.Prelude.{◌≤◌, length};
 
 use libc::{STDERR_FILENO, STDOUT_FILENO};

@@ -1,4 +1,6 @@
 // Reading a sheet, in the order of document 01: first line, rows, N. The public operation is `read_sheet`; `load_sheet` fills lent memory for the others.
+#![tactic(auto)]
+
 ghost use Rattle.std.specs.Prelude.{◌≡◌, ◌+◌, ◌*◌, ◌≤◌, ◌<◌, length, replicate};
 ghost use Rattle.rules.specs.Numbers.{most_consequents, most_rows};
 ghost use Rattle.sheet.specs.Numbers.{sheet_room};

@@ -1,4 +1,6 @@
 // The text of rows in memory, written into a buffer: the first line, then a line for each row.
+#![tactic(auto)]
+
 ghost use Rattle.std.specs.Prelude.{◌≡◌, ◌++◌, ◌+◌, ◌*◌, ◌≤◌, ◌<◌, length, drop};
 ghost use Rattle.columns.specs.Ink.{inked};
 ghost use Rattle.scenario.specs.Reading.{All};

@@ -96,6 +96,6 @@ demand-two s accepted m = record {
 -- (c) violating, reached, lowest, smallest: else it says "violated" with the smallest of the placements that the searches find, cut,
 --     and every matching of every antiscenario, cut, is that placement or larger;
 --     faults: for each consequent it names the first row in sheet order that cannot be met.
--- checkOf and searchOf are what `check` and the search answer by contract; `check` carries this same record in its own contract.
+-- check_of and search_of are what `check` and the search answer by contract; `check` carries this same record in its own contract.
 pub demand-three : (s l : List ℕ) → Accepted s l → DemandThree s l (check_of s l) (search_of s l)
 demand-three s l accepted = demand-bytes s l accepted
