@@ -1,5 +1,5 @@
 -- The lines up to low have ticks below the limit, those behind high have not (Logs.ticks-rise).
-use Prim.Native.Nat.{ℕ, ◌+◌, ◌-◌, ◌/◌, ◌≤◌, ◌<◌}
+use Prim.Native.Nat.{ℕ, ◌+◌, ◌/◌, ◌≤◌, ◌<◌}
 use native.Mathlib.Omega.{arith}
 use lib.ListN.{get_or}
 use Rattle.run.specs.Words.{ticks_in, line_count}
