@@ -15,7 +15,7 @@ pub const ANTECEDENT_POINTS: u32 = 4;
 pub const CONSEQUENT_POINTS: u32 = 8;
 
 // Document 01, "Rows": section, kind, p, q, a, b.
-#[derive(Drop)]
+#[derive(Clone, Copy)]
 pub struct Line {
     pub section: u32,
     pub kind: u32,

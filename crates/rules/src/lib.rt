@@ -23,7 +23,7 @@ const SECTION_TOO_LONG: u32 = 10;
 
 // Where a reading stands: the preceding row's section, how many rows it has so far, how many points the antecedent has introduced, and how many that
 // section has if it is a consequent.
-#[derive(Drop)]
+#[derive(Clone, Copy)]
 pub struct Stand {
     pub section: u32,
     pub rows: u32,
