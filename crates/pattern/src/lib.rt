@@ -25,7 +25,7 @@ pub const MOST_POINTS: usize = 58;
 pub const ROWS_ROOM: usize = 1200;
 
 // A row's five numbers, and the set whose halves a and b are where the kind has one.
-#[derive(Drop)]
+#[derive(Clone, Copy)]
 pub struct Row {
     pub kind: u32,
     pub p: u32,
