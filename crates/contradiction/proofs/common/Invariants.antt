@@ -1,0 +1,9 @@
+use Prim.Native.Nat.{◌≤◌}
+use Rattle.contradiction.proofs.Events.{CommonFrom}
+use Rattle.contradiction.proofs.common.Given as goal
+
+abbrev pub invariant-loop-i : goal.invariant-loop-i
+invariant-loop-i l = (l.i ≤ l.n) × CommonFrom l.table l.rows l.p l.i l.n l.set
+
+abbrev pub decreases-loop-i : goal.decreases-loop-i
+decreases-loop-i l = l.i
