@@ -1,6 +1,6 @@
 -- The introducing rows that a denial brings, as the code goes: rows by their numbers, six to a row. Inner vocabulary.
 -- Assumes nothing.
-use Rattle.std.specs.Prelude.{◌≡◌, Bool, cond, ◌&&◌, List, [], ◌∷◌, ◌++◌, ℕ, zero, suc, ◌+◌, ◌<◌, get_or, set, leb, eqb}
+use Rattle.std.specs.Prelude.{◌≡◌, Bool, cond, ◌&&◌, List, [], ◌∷◌, ◌++◌, ℕ, zero, suc, ◌<◌, get_or, set, leb, eqb}
 use Rattle.row.specs.declared.Line.{Line}
 use Rattle.row.specs.Memory.{line_in}
 
