@@ -1,0 +1,49 @@
+-- `led_to` meets its contract: the table tells where the section's rows from number i on lead.
+use mathlib.Core.Path.{sym, ◌∙◌, subst}
+use mathlib.Core.List.{List}
+use native.Mathlib.Omega.{arith}
+use Rattle.scenario.specs.Links.{Link, leads}
+use Rattle.row.specs.Memory.{line_in}
+use Rattle.links.specs.Table.{Tells}
+use Rattle.order.specs.Leading.{places}
+use Rattle.order.proofs.Entering.{is-low, none-entered, other-section, other-kind, row-entered, all-entered}
+use borrow.Author.Rules.{rules}
+use Rattle.order.proofs.led_to.Goals as goal
+
+pub loop-i-init : goal.loop-i-init
+loop-i-init c = (search rules, none-entered _ _ _ _ _ c.begin.ensures)
+
+pub loop-i-preserved-then-section_of-section : goal.loop-i-preserved-then-section_of-section
+unfolding line_in
+loop-i-preserved-then-section_of-section c =
+    let l = c.loop-i in
+    let a = c.args in
+    let e = other-section a.rows.now a.section a.upward l.i a.n c.loop-i-test.true l.invariant.0 (λ q. c.if-section_of-section.true (c.section_of.ensures ∙ q)) in
+    (omega (arith, l.invariant.0), subst (λ (ls : List Link). Tells places l.table (leads ls)) (sym e) l.invariant.1)
+
+pub loop-i-preserved-then-kind_of-ne-BEFORE : goal.loop-i-preserved-then-kind_of-ne-BEFORE
+unfolding line_in
+loop-i-preserved-then-kind_of-ne-BEFORE c =
+    let l = c.loop-i in
+    let a = c.args in
+    let e = other-kind a.rows.now a.section a.upward l.i a.n c.loop-i-test.true l.invariant.0 (sym c.section_of.ensures ∙ c.if-section_of-section.false) (λ q. c.if-kind_of-ne-BEFORE.true (c.kind_of.ensures ∙ q)) in
+    (omega (arith, l.invariant.0), subst (λ (ls : List Link). Tells places l.table (leads ls)) (sym e) l.invariant.1)
+
+pub enter_row-requires : goal.enter_row-requires
+enter_row-requires c = c.loop-i.invariant.1.size
+
+pub loop-i-preserved : goal.loop-i-preserved
+unfolding line_in
+loop-i-preserved c =
+    let l = c.loop-i in (
+      search rules,
+      row-entered _ _ _ l.i _ c.loop-i-test.true l.invariant.0 (sym c.section_of.ensures ∙ c.if-section_of-section.false) (sym c.kind_of.ensures ∙ c.if-kind_of-ne-BEFORE.false)
+          c.line_at.result c.line_at.ensures l.table _ l.invariant.1 c.enter_row.ensures,
+    )
+
+pub returns : goal.returns
+returns c =
+    let l = c.loop-i in all-entered _ _ _ l.i _ l.table c.loop-i-test.false l.invariant.1 _ _ c.place.ensures
+
+pub bounds-table-place : goal.bounds-table-place
+bounds-table-place c = let h = is-low _ _ c.place.ensures in search rules
