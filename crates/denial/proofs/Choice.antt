@@ -10,7 +10,7 @@ use lib.ListN.{length, get_or, set, length-set, length-map, replicate, length-re
 use lib.Seq.{get_or-set_same, get_or-set_other}
 use lib.Dec.{eqb, leb, ltb}
 use borrow.Author.Tests.{le-ltb, eqb-true, eqb-false, ltb-true, ltb-false}
-use Rattle.scenario.specs.Rows.{Row, point, next, last, earlier, later, before, apart, same, free, within, outside, event, introduced, needs, brings, elem, closure, points, denying_rows, denials, far_end}
+use Rattle.scenario.specs.Rows.{Row, introduced, needs, brings, elem, closure, points, denying_rows, denials, far_end}
 use Rattle.scenario.specs.Fields.{fields, five, decode, row_of, Tagged, tagged, written}
 use Rattle.scenario.specs.Sheet.{choices, total, choose, chosen}
 use Rattle.scenario.specs.Reading.{All, RowsRead, SectionsRead, SheetRead}
