@@ -2,7 +2,7 @@
 -- Assumes nothing.
 use Rattle.std.specs.Prelude.{◌≡◌, List, map, ℕ, ◌*◌, ◌≤◌, length}
 use Rattle.scenario.specs.Fields.{written}
-use Rattle.scenario.specs.Sheet.{Sheet, count, antiscenario}
+use Rattle.scenario.specs.Sheet.{Sheet, antiscenario}
 use Rattle.scenario.specs.Reading.{All, Pattern}
 use Rattle.row.specs.Memory.{lines_in, rows_of}
 use Rattle.sheet.specs.Text.{Fits, numbers_of}

@@ -87,10 +87,11 @@ pub fn load_text(sheet: &[u8], number: u64, out: &mut [u32]) -> TextRows
     if read.refusal != 0 {
         return no_rows(read.refusal);
     }
+    let k = read.k;
     let loaded = load(&rows, read, number, out);
     TextRows {
         refusal: loaded.refusal,
-        k: read.k,
+        k,
         rows: loaded.rows,
     }
 }
