@@ -7,7 +7,7 @@ use Prim.Native.Nat.{ℕ, ◌≤◌}
 use lib.ListN.{length}
 use lib.Dec.{eqb}
 use borrow.Author.Tests.{eq-eqb, ne_eqb, eqb-true}
-use Rattle.scenario.specs.Log.{Log, run_of}
+use Rattle.scenario.specs.Log.{run_of}
 use Rattle.row.specs.Memory.{lay as lay-rows}
 use Rattle.sheet.specs.declared.Answer.{Answer as SheetAnswer}
 use Rattle.sheet.specs.Reading.{taken as sheet-taken, answer as sheet-answer}
