@@ -1,0 +1,18 @@
+use mathlib.Core.List.{map}
+use lib.ListN.{length}
+use Rattle.scenario.specs.Rows.{points}
+use Rattle.run.specs.Words.{events_in, line_count}
+use Rattle.run.specs.Held.{part, run_held}
+use Rattle.row.specs.Memory.{rows_of}
+use Rattle.sheet.specs.Held.{sheet_at}
+use Rattle.pattern.specs.Placing.{by}
+use Rattle.plan.specs.Tables.{count_of_rows}
+use Rattle.verdict.proofs.Loop.{still, Turning}
+use Rattle.verdict.proofs.first_violation.Given as goal
+
+abbrev pub invariant-loop-positions : goal.invariant-loop-positions
+invariant-loop-positions l = Turning (run_held l.run) (sheet_at l.rows l.count l.k) (line_count l.run) l.rows l.plan l.positions
+
+abbrev pub decreases-loop-positions : goal.decreases-loop-positions
+decreases-loop-positions l =
+    still (length (part (events_in l.run) (line_count l.run))) (length (points (rows_of l.rows (count_of_rows l.plan)))) (map (by l.positions) (points (rows_of l.rows (count_of_rows l.plan))))
