@@ -31,7 +31,7 @@ pub returns-then-placement-point_count : goal.returns-then-placement-point_count
 returns-then-placement-point_count c =
     let told = promised c.args.sheet.now c.args.log.now c.args.number c.args.placement.count c.args.placement.positions _ (c.unjudged-then-placement-point_count.ensures
     ∙ wrong_number c.args.sheet.now c.args.log.now c.args.number c.args.placement.positions c.args.placement.count c.load_antiscenario-ready.result.refusal c.load_antiscenario-ready.ensures.refusal c.if-ready-ne0.false c.load_antiscenario-ready.new.out c.load_antiscenario-ready.new.run c.load_antiscenario-ready.result.rows (both_there (goal.at.returns-then-placement-point_count c).Else-ready-ne0)
-    c.gather-point_count.result c.gather-point_count.ensures.number c.if-placement-point_count.true) in
+    c.gather-point_count.result c.gather-point_count.ensures.number (λ e. omega (arith, c.if-placement-point_count.true, e))) in
     record { answer = told.0; past = told.1 }
 
 pub is_matching-met-requires : goal.is_matching-met-requires
@@ -42,5 +42,5 @@ is_matching-met-requires c =
 pub returns : goal.returns
 returns c =
     let told = promised c.args.sheet.now c.args.log.now c.args.number c.args.placement.count c.args.placement.positions _ (judged c.args.sheet.now c.args.log.now c.args.number c.args.placement.positions c.args.placement.count c.load_antiscenario-ready.result.refusal c.load_antiscenario-ready.ensures.refusal c.if-ready-ne0.false c.load_antiscenario-ready.new.out c.load_antiscenario-ready.new.run c.load_antiscenario-ready.result.rows (both_there (goal.at.returns c).Else-ready-ne0)
-    c.gather-point_count.result c.gather-point_count.ensures.number c.is_matching-met.result c.if-placement-point_count.false c.is_matching-met.ensures) in
+    c.gather-point_count.result c.gather-point_count.ensures.number c.is_matching-met.result (omega (arith, c.if-placement-point_count.false)) c.is_matching-met.ensures) in
     record { answer = told.0; past = told.1 }

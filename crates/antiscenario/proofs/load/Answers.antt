@@ -14,7 +14,7 @@ build-n-requires c =
 -- and what is built is held
 held : (c : After-build-n) → AntiscenarioHeld (sheet_at c.args.rows.now c.args.read.rows c.args.read.k) c.args.number c.build-n.new.out c.build-n.result
 held c =
-    antiscenario-held c.args.rows.now c.args.read c.requires.0 c.args.number c.build-n.new.out c.args.out.now c.build-n.result c.requires.1 c.build-n.ensures.ends c.build-n.ensures.memory c.if-number-lt1.false c.if-read-number.false
+    antiscenario-held c.args.rows.now c.args.read c.requires.0 c.args.number c.build-n.new.out c.args.out.now c.build-n.result c.requires.1 c.build-n.ensures.ends c.build-n.ensures.memory c.if-number-lt1.false (omega (arith, c.if-read-number.false))
 
 pub returns-clause-memory : goal.returns-clause-memory
 returns-clause-memory c = λ z. held (goal.at.returns-clause-memory c).After-build-n
