@@ -1,0 +1,30 @@
+-- `copy_front` meets its contract. The loop's invariant: the first i numbers stand in front of what was there.
+use borrow.Author.Rules.{rules}
+use mathlib.Core.Path.{◌≡◌, refl, ap, ◌∙◌}
+use mathlib.Core.List.{◌++◌}
+use Prim.Native.Nat.{ℕ}
+use native.Mathlib.Omega.{arith}
+use lib.ListN.{get_or, take, drop, length-set}
+use Rattle.findings.specs.Findings.{fronted}
+use Rattle.findings.proofs.Telling.{copied-one}
+use Rattle.findings.proofs.copy_front.Goals as goal
+
+pub loop-i-init : goal.loop-i-init
+loop-i-init c = (search rules, refl, refl)
+
+pub loop-i-preserved : goal.loop-i-preserved
+loop-i-preserved c =
+    let l = c.loop-i in
+    let a = c.args in (
+      search rules,
+      length-set l.to l.i (get_or a.from.now l.i 0) ∙ l.invariant.1,
+      copied-one a.from.now a.to.now l.i (search rules) (search rules) l.to l.invariant.2,
+    )
+
+pub returns : goal.returns
+unfolding fronted
+returns c =
+    let l = c.loop-i in
+    let a = c.args in
+    let e : l.i ≡ a.count = omega (arith, c.loop-i-test.false, l.invariant.0) in
+    l.invariant.2 ∙ ap (λ (n : ℕ). take n a.from.now ++ drop n a.to.now) e
