@@ -10,7 +10,6 @@ use native.Mathlib.Numerals.{add-one}
 use native.Mathlib.Omega.{arith}
 use lib.ListN.{length, get_or, take, drop, replicate, set, length-append, drop_of_length-le}
 use lib.Seq.{drop-cons}
-use Rattle.scenario.specs.Rows.{points}
 use Rattle.scenario.specs.Reading.{All}
 use Rattle.scenario.proofs.Base.{all_map, all_get_d}
 use Rattle.columns.specs.Spell.{spell, fits_in}
