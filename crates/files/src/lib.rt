@@ -1,7 +1,19 @@
 // Files for the programs: one that is named, or the one that an argument names, read whole into lent memory.
 #![tactic(auto)]
 
-ghost use Rattle.std.specs.Prelude.{◌≤◌, length};
+ghost use Rattle.std.specs.Prelude.{◌≤◌, length, IfOk};
+
+use std::env::{Env, FillError};
+use std::io::Read;
+use std::rt::Files;
+use std::{fs, io, str};
+
+// The system's numbers for an argument that is not there, for a name that is too long, and for one that is no text.
+const EINVAL: i32 = 22;
+
+const ENAMETOOLONG: i32 = 36;
+
+const EILSEQ: i32 = 84;
 
 // A file that was read, and how many bytes it has; or one that cannot be read.
 #[derive(Drop)]
@@ -19,47 +31,99 @@ fn unread() -> Loaded
     }
 }
 
-// Whether a file was read to its end, or as far as there is room: a directory can be opened and not read.
-fn is_whole(fd: i32, size: usize, room: usize) -> bool {
-    let mut byte = [0u8; 1];
-    let more = libc::read(fd, &mut byte);
-    if more == 0 {
-        return true;
-    }
-    if more < 0 {
-        return false;
-    }
-    size == room
+// An error's words, without the system's number for them.
+fn words_of(text: &str) -> &str {
+    let Some((words, _)) = text.split_once(" (os error ") else {
+        return text;
+    };
+    words
 }
 
-// Reads a file into lent memory, or says on standard error why it cannot.
-pub fn load(path: &[u8], into: &mut [u8]) -> Loaded
-    ensures { result.size ≤ length into.old }
+// Says on standard error what cannot be read, and why.
+fn fail(rt: &(impl Eprint + Alloc), what: &str, error: io::Error) -> io::Result<()> {
+    let text = format!(in rt.alloc(); "{error}")?;
+    let words = words_of(text.as_str());
+    eprintln!(rt; "{what}: {words}")
+}
+
+// Reads until the memory is full or the file ends.
+fn read_full(file: &mut impl Read, into: &mut [u8]) -> io::Result<usize>
+    ensures { IfOk result (λ size. size ≤ length into.old) }
 {
-    let fd = os::open_read(path);
-    if fd < 0 {
-        os::fail(path);
-        return unread();
+    let mut size = 0;
+    while size < into.len() {
+        let got = file.read(&mut into[size..])?;
+        if got == 0 {
+            break;
+        }
+        size += got;
     }
-    let size = io::read_full(fd, into);
-    if !is_whole(fd, size, into.len()) {
-        os::fail(path);
-        libc::close(fd);
-        return unread();
+    Ok(size)
+}
+
+// Reads a file to its end, or as far as there is room: a directory can be opened and not read.
+fn read_whole(file: &mut impl Read, into: &mut [u8]) -> io::Result<usize>
+    ensures { IfOk result (λ size. size ≤ length into.old) }
+{
+    let size = read_full(file, into)?;
+    let mut byte = [0u8; 1];
+    let more = file.read(&mut byte)?;
+    if more != 0 && size != into.len() {
+        return Err(io::Error::other("changed while it was read"));
     }
-    libc::close(fd);
-    Loaded { read: true, size }
+    Ok(size)
+}
+
+// Reads a file into lent memory, or says on standard error why it cannot. An error is that this could not be said.
+pub fn load<R: Files + Eprint + Alloc>(rt: &R, path: &[u8], into: &mut [u8]) -> io::Result<Loaded>
+    ensures { IfOk result (λ loaded. loaded.size ≤ length into.old) }
+{
+    let Ok(name) = str::from_utf8(path) else {
+        let name = String::from_utf8_lossy(rt.alloc(), path)?;
+        fail(rt, name.as_str(), io::Error::from_raw_os_error(EILSEQ))?;
+        return Ok(unread());
+    };
+    match read_named(rt, name, into) {
+        Ok(size) => Ok(Loaded { read: true, size }),
+        Err(error) => {
+            fail(rt, name, error)?;
+            Ok(unread())
+        }
+    }
+}
+
+fn read_named<R: Files>(rt: &R, name: &str, into: &mut [u8]) -> io::Result<usize>
+    ensures { IfOk result (λ size. size ≤ length into.old) }
+{
+    let mut file = fs::open(rt, name)?;
+    read_whole(&mut file, into)
 }
 
 // The file that argument i names.
-pub fn load_argument(i: usize, into: &mut [u8]) -> Loaded
-    ensures { result.size ≤ length into.old }
+pub fn load_argument<R: Files + Env + Eprint + Alloc>(
+    rt: &R,
+    i: usize,
+    into: &mut [u8],
+) -> io::Result<Loaded>
+    ensures { IfOk result (λ loaded. loaded.size ≤ length into.old) }
 {
-    let mut path = io::buffer();
-    let size = os::arg(i, &mut path);
-    if os::errno() != 0 {
-        os::fail(b"argument");
-        return unread();
+    let mut path = [0u8; 4096];
+    match rt.arg(i, &mut path) {
+        Ok(size) => load(rt, &path[..size], into),
+        Err(error) => {
+            fail(
+                rt,
+                "argument",
+                io::Error::from_raw_os_error(number_of(error)),
+            )?;
+            Ok(unread())
+        }
     }
-    load(&path[0..size], into)
+}
+
+fn number_of(error: FillError) -> i32 {
+    match error {
+        FillError::NotPresent => EINVAL,
+        FillError::TooLong => ENAMETOOLONG,
+    }
 }
