@@ -2,45 +2,60 @@
 // It reads the files sheet and log, or the two that its arguments name.
 #![tactic(auto)]
 
-ghost use Rattle.std.specs.Prelude.{◌≤◌, length};
+ghost use Rattle.std.specs.Prelude.{◌≤◌, length, take, IfOk, OnOk};
+ghost use Rattle.std.specs.Io.KnownBytes.{Appends};
+ghost use Rattle.report.specs.Printing.{report_of};
 
-use libc::{STDERR_FILENO, STDOUT_FILENO};
+use std::env::{Env, FillError};
+use std::io;
+use std::io::Write;
+use std::rt::Files;
+
+fn has_argument(rt: &impl Env, i: usize) -> bool {
+    !matches!(rt.arg(i, &mut []), Err(FillError::NotPresent))
+}
 
 // The file that argument i names; without arguments, the usual one.
-fn load_or_usual(i: usize, usual: &[u8], into: &mut [u8]) -> files::Loaded
-    ensures { result.size ≤ length into.old }
+fn load_or_usual<R: Files + Env + Eprint + Alloc>(
+    rt: &R,
+    i: usize,
+    usual: &[u8],
+    into: &mut [u8],
+) -> io::Result<files::Loaded>
+    ensures { IfOk result (λ loaded. loaded.size ≤ length into.old) }
 {
-    if os::arg_count() < 2 {
-        return files::load(usual, into);
+    if !has_argument(rt, 1) {
+        return files::load(rt, usual, into);
     }
-    files::load_argument(i, into)
+    files::load_argument(rt, i, into)
 }
 
 // Checks, and prints the lines of document 01.
-fn print_report(sheet: &[u8], log: &[u8]) -> bool {
+fn print_report<W: Write>(out: &mut W, sheet: &[u8], log: &[u8]) -> io::Result<()>
+    ensures { OnOk result (Appends (W.contents out.old) (W.contents out.new) (take (report_of sheet.now log.now).length (report_of sheet.now log.now).text)) }
+{
     let report = report::report_check(sheet, log);
     let text = report.text;
     let length = report.length;
-    io::write_all(STDOUT_FILENO, &text[0..length])
+    out.write_all(&text[0..length])
 }
 
 // The memory has one byte more than the largest sheet and the largest log that are accepted, so that a longer file is refused and not cut.
-fn main() {
+fn main(rt: HostRuntime) -> io::Result<()> {
     let mut sheet = [0u8; 6168];
     let mut log = [0u8; 60029];
-    if 3 < os::arg_count() {
-        io::write_all(STDERR_FILENO, b"usage: satskhubo [SHEET LOG]\n");
-        return;
+    if has_argument(&rt, 3) {
+        return eprintln!(rt; "usage: satskhubo [SHEET LOG]");
     }
-    let s = load_or_usual(1, b"sheet", &mut sheet);
+    let s = load_or_usual(&rt, 1, b"sheet", &mut sheet)?;
     if !s.read {
-        return;
+        return Ok(());
     }
-    let l = load_or_usual(2, b"log", &mut log);
+    let l = load_or_usual(&rt, 2, b"log", &mut log)?;
     if !l.read {
-        return;
+        return Ok(());
     }
     let n = s.size;
     let m = l.size;
-    print_report(&sheet[0..n], &log[0..m]);
+    print_report(&mut io::writer(&rt), &sheet[0..n], &log[0..m])
 }
