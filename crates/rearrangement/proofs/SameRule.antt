@@ -33,7 +33,7 @@ use Rattle.antiscenario.specs.Write.{written_text, written_lines}
 use Rattle.search.specs.Searching.{search_of, Searched, searched}
 use Rattle.verdict.specs.declared.Checked.{Checked}
 use Rattle.verdict.specs.Check.{Accepted, blank, rows_in, verdict_of, violated_at, check_of}
-use Rattle.verdict.proofs.DemandThree.{low, check-is, search_is, rows_are, cut-filled, matches}
+use Rattle.verdict.proofs.DemandThree.{low, check-is, search_is, rows_are, cut-filled}
 use Rattle.rearrangement.specs.Order.{Rearrangement, reordered, rearranged, renumbered, SamePatterns}
 use Rattle.rearrangement.specs.SameRule.{Rearranged, SameRow, SameCheck, SameSearch, SameRule}
 use Rattle.rearrangement.proofs.Patterns.{length-reordered, rearranged-back, same-patterns}
