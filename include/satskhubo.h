@@ -1,7 +1,7 @@
 /*
  * Satskhubo: does a run log keep the rule of a sheet?
  *
- * Link with libbench.a (`rt staticlib bench` writes target/staticlib/libbench.a).
+ * Link with libbench.a (`sh build.sh` writes target/staticlib/libbench.a).
  *
  * Sheets and logs are texts in the columns of document 01. Every byte range is a pointer and a length; a length of 0 needs no
  * memory, but the pointer must not be null. Nothing is kept between calls, nothing is allocated, no call blocks, and calls on

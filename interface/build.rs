@@ -1,4 +1,4 @@
-//! Links libbench.a, where `rt staticlib bench` writes it.
+//! Links libbench.a, where build.sh puts it.
 use std::path::PathBuf;
 
 fn main() {

@@ -1,6 +1,6 @@
 //! ./satskhubo and build.sh in a small tree of their own, where `rt` and `cargo` are stand-ins that say when they are called.
 mod common;
-use common::{as_nobody, said, scratch, top, until, Public};
+use common::{as_nobody, said, top, until, Public};
 use std::ffi::OsStr;
 use std::fs;
 use std::os::unix::fs::{symlink, PermissionsExt};
@@ -8,17 +8,25 @@ use std::os::unix::process::{CommandExt, ExitStatusExt};
 use std::path::{Path, PathBuf};
 use std::process::{Child, Command, Output, Stdio};
 
-/// rt: takes note of the call, leaves a temporary file, runs the file `meanwhile` if there is one, says what rt says, and writes the archive.
+/// rt: takes note of the call, leaves a temporary file, runs the file `meanwhile` if there is one, says what rt says, keeps something
+/// beside the sources, and writes the archive.
 const RT: &str = r#"#!/bin/sh
-echo "rt $*" >>calls
+top=$PWD/../..
+echo "rt $* in ${PWD##*/}" >>"$top/calls"
 mktemp >/dev/null
+cd "$top"
 if [ -e meanwhile ]; then . ./meanwhile; fi
-echo 'rt: columns proved (14 s)' >&2
+mkdir -p crates/columns/out crates/bench/out
+echo kept >crates/columns/out/kept
+echo 'rt: columns: begins with what a check kept elsewhere' >&2
+echo 'crate columns: modules loaded=0 checked=33'
+echo 'logic=proved functions=1 sum=1'
 echo 'fn sheet::parse: proved'
-echo 'rt: sheet proved (unchanged since it was last proved)' >&2
-mkdir -p target/staticlib
-echo archive >target/staticlib/libbench.a
-echo 'rt: target/staticlib/libbench.a has the functions of bench'
+echo 'crate sheet: modules loaded=0 checked=1'
+echo 'logic=proved functions=2 sum=1'
+echo archive >crates/bench/out/libbench.a
+echo 'crate bench: modules loaded=0 checked=1'
+echo 'logic=proved functions=3 target=here sum=1'
 "#;
 
 /// cargo: takes note, and writes a program that says its version, or its arguments, and ends with 7.
@@ -31,17 +39,19 @@ printf '#!/bin/sh\nif [ "$*" = --version ]; then echo version; exit; fi\nfor wor
 chmod +x cli/target/release/satskhubo
 "#;
 
-const PROGRESS: &str = "satskhubo: proving and building the library: this is done once, and usually takes about five minutes
-proved 1 of 3: columns (14 s)
-proved 2 of 3: sheet (unchanged since it was last proved)
+const PROGRESS: &str = "satskhubo: proving and building the library: this is done once, and may take an hour
+proved 1 of 3: columns
+proved 2 of 3: sheet
 proved 3 of 3: bench
 satskhubo: building the program
 ";
 
-const RT_CALL: &str = "rt staticlib bench\n";
+const RT_CALL: &str = "rt lib in bench\n";
 const CARGO_CALL: &str = "cargo build --release --offline --manifest-path cli/Cargo.toml --target-dir cli/target \n";
 
+/// The tree goes with its owner, and stands outside the repository, where rt would take its crates for lost files.
 struct Tree {
+    room: Public,
     top: PathBuf,
     tools: PathBuf,
 }
@@ -55,18 +65,25 @@ fn write(path: &Path, text: &str, mode: u32) {
 impl Tree {
     /// A tree with nothing built, in a folder with a blank and a line feed in its name.
     fn new(name: &str) -> Tree {
-        Tree::new_in(&scratch(name))
-    }
-
-    fn new_in(room: &Path) -> Tree {
-        let tree = Tree { top: room.join("a tree\n"), tools: room.join("tools") };
+        let room = Public::new(name);
+        let tree = Tree { top: room.0.join("a tree\n"), tools: room.0.join("tools"), room };
         for file in ["satskhubo", "build.sh", "install.sh", "include/satskhubo.h", "docs/satskhubo.1"] {
             write(&tree.path(file), &fs::read_to_string(top().join(file)).unwrap(), 0o755);
         }
-        write(&tree.path("crates.txt"), "# crates\ncolumns:\nsheet: columns libc\nother: sheet\nbench: columns sheet\n", 0o644);
-        for file in
-            ["crates/columns/src/lib.rt", "crates/sheet/src/lib.rt", "cli/Cargo.toml", "cli/src/main.rs", "interface/src/lib.rs"]
-        {
+        write(
+            &tree.path("crates.txt"),
+            "# crates\ncolumns:\nsheet: columns json\nother: sheet\nbench staticlib: columns sheet\n",
+            0o644,
+        );
+        for file in [
+            "crates/bench/src/lib.rt",
+            "crates/columns/src/lib.rt",
+            "crates/sheet/src/lib.rt",
+            "crates/sheet/specs/Lib.antt",
+            "cli/Cargo.toml",
+            "cli/src/main.rs",
+            "interface/src/lib.rs",
+        ] {
             write(&tree.path(file), "source\n", 0o644);
         }
         write(&tree.tools.join("rt"), RT, 0o755);
@@ -170,6 +187,8 @@ fn a_first_run_builds_and_hands_over() {
     let due = [
         "./cli/target/program.built",
         "./cli/target/release/satskhubo",
+        "./crates/bench/out/libbench.a",
+        "./crates/columns/out/kept",
         "./target/archive.built",
         "./target/build.lock",
         "./target/build.log",
@@ -177,6 +196,8 @@ fn a_first_run_builds_and_hands_over() {
     ];
     assert_eq!(made, due);
     assert!(fs::read_to_string(tree.path("target/build.log")).unwrap().contains("fn sheet::parse: proved\n"));
+    let verdict = fs::read_to_string(tree.path("target/archive.built")).unwrap();
+    assert_eq!(verdict.lines().next(), Some("logic=proved functions=3 target=here sum=1"));
 }
 
 #[test]
@@ -202,6 +223,9 @@ fn closed_descriptors_are_in_nobodys_way() {
 fn what_is_up_to_date_is_not_built_again() {
     let tree = Tree::built("launcher-again");
     write(&tree.path("README.md"), "words\n", 0o644);
+    // What rt keeps beside the sources is none of them.
+    write(&tree.path("crates/sheet/out/kept"), "kept\n", 0o644);
+    fs::remove_dir_all(tree.path("crates/columns/out")).unwrap();
     assert_eq!(tree.run_and_expect(7), "");
     assert_eq!(tree.calls(), "");
 }
@@ -214,6 +238,8 @@ fn older_than_its_sources_is_built_again() {
         ("echo changed >crates/sheet/src/lib.rt", both.as_str()),
         ("echo new >crates/sheet/src/new.rt", &both),
         ("rm crates/sheet/src/new.rt", &both),
+        ("mkdir crates/columns/specs", &both),
+        ("rm -r crates/sheet/specs", &both),
         ("mkdir crates/more", &both),
         ("echo old >old; touch -t 200001010000 old; cp -p old crates/columns/src/lib.rt; rm old", &both),
         ("echo '# more' >>crates.txt", &both),
@@ -275,7 +301,7 @@ fn a_build_that_fails_ends_with_2_and_says_where_its_log_is() {
 #[test]
 fn without_rt_or_cargo_it_says_where_they_come_from() {
     let tree = Tree::new("launcher-no-tools");
-    for tool in ["sh", "readlink", "find", "awk", "mkdir", "touch", "rm", "flock", "setsid", "chmod", "mktemp"] {
+    for tool in ["sh", "readlink", "find", "awk", "mkdir", "touch", "rm", "cp", "mv", "flock", "setsid", "chmod", "mktemp"] {
         let found = said(&shell(&format!("command -v {tool}"), &tree.top));
         symlink(found.trim_end(), tree.tools.join(tool)).unwrap();
     }
@@ -296,10 +322,10 @@ fn without_rt_or_cargo_it_says_where_they_come_from() {
 #[test]
 fn symlinks_lead_to_the_folder() {
     let tree = Tree::built("launcher-symlinks");
-    let elsewhere = scratch("launcher-symlinks-elsewhere");
+    let elsewhere = tree.room.0.join("elsewhere");
     fs::create_dir_all(elsewhere.join("a bin")).unwrap();
     symlink(tree.path("satskhubo"), elsewhere.join("absolute")).unwrap();
-    symlink("../../launcher-symlinks/a tree\n/satskhubo", elsewhere.join("a bin/relative one")).unwrap();
+    symlink("../../a tree\n/satskhubo", elsewhere.join("a bin/relative one")).unwrap();
     symlink("a bin/relative one", elsewhere.join("chained")).unwrap();
     symlink("a bin", elsewhere.join("bin")).unwrap();
     symlink("../chained", elsewhere.join("a bin/satskhubo-in-path")).unwrap();
@@ -319,8 +345,7 @@ fn ended(process: &str) -> bool {
 
 #[test]
 fn a_tree_that_cannot_be_written() {
-    let room = Public::new("launcher");
-    let tree = Tree::new_in(&room.0);
+    let tree = Tree::new("launcher-unwritable");
     let run_as_nobody = || {
         let path = tree.command().get_envs().find_map(|(name, value)| value.filter(|_| name == "PATH")).unwrap().to_os_string();
         as_nobody(&tree.path("satskhubo")).arg("word").env("PATH", path).output().unwrap()

@@ -16,7 +16,7 @@ fn it_reads_the_files_of_its_folder() {
     for (name, from) in [("sheet", SHEET), ("log", LOG)] {
         std::fs::copy(top().join(from), folder.join(name)).expect("a file is copied");
     }
-    let output = program().current_dir(&folder).output().expect("`rt check satskhubo` has built it");
+    let output = program().current_dir(&folder).output().expect("`sh build.sh --all` has built it");
     assert_eq!(said(&output), "  0  1\n    3\n   3\n");
 }
 
@@ -32,7 +32,7 @@ fn it_says_what_the_peoples_program_says() {
         .collect();
     for sheet in sheets {
         for log in &logs {
-            let output = program().args([&sheet, log]).output().expect("`rt check satskhubo` has built it");
+            let output = program().args([&sheet, log]).output().expect("`sh build.sh --all` has built it");
             assert_eq!(said(&output), run(&["check", "--plain", &sheet, log]).answer().1, "{sheet} {log}");
         }
     }
@@ -41,7 +41,7 @@ fn it_says_what_the_peoples_program_says() {
 #[test]
 fn a_file_that_is_not_there() {
     for names in [["no-such-sheet", LOG], [SHEET, "no-such-log"]] {
-        let output = program().args(names).output().expect("`rt check satskhubo` has built it");
+        let output = program().args(names).output().expect("`sh build.sh --all` has built it");
         assert!(output.stdout.is_empty() && !output.stderr.is_empty(), "{names:?}");
     }
 }

@@ -37,7 +37,7 @@ fn further(unit: usize) -> [usize; 9] {
 fn program(folder: &Path, sheet: &[u8], log: &[u8]) -> String {
     let (sheet, log) = (file(folder, "sheet", sheet), file(folder, "log", log));
     let program = Command::new(top().join("target/bin/satskhubo")).current_dir(folder).output();
-    let said = said(&program.expect("`rt check satskhubo` has built it"));
+    let said = said(&program.expect("`sh build.sh --all` has built it"));
     assert_eq!(run(&["check", "--plain", &sheet, &log]).answer().1, said);
     said
 }
