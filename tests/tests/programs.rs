@@ -45,3 +45,20 @@ fn a_file_that_is_not_there() {
         assert!(output.stdout.is_empty() && !output.stderr.is_empty(), "{names:?}");
     }
 }
+
+#[test]
+fn what_it_cannot_do_it_says_on_standard_error_alone() {
+    let long = "a".repeat(5000);
+    let asked: [(&[&str], &str); 5] = [
+        (&[SHEET, LOG, LOG], "usage: satskhubo [SHEET LOG]\n"),
+        (&[SHEET], "argument: Invalid argument\n"),
+        (&["no-such-sheet", LOG], "no-such-sheet: No such file or directory\n"),
+        (&[SHEET, "examples"], "examples: Is a directory\n"),
+        (&[&long, LOG], "argument: File name too long\n"),
+    ];
+    for (words, due) in asked {
+        let output = program().args(words).output().expect("`sh build.sh --all` has built it");
+        let heard = String::from_utf8_lossy(&output.stderr);
+        assert_eq!((output.status.code(), said(&output).as_str(), heard.as_ref()), (Some(0), "", due));
+    }
+}
