@@ -74,21 +74,29 @@ fn read_whole(file: &mut impl Read, into: &mut [u8]) -> io::Result<usize>
     Ok(size)
 }
 
-// Reads a file into lent memory, or says on standard error why it cannot. An error is that this could not be said.
-pub fn load<R: Files + Eprint + Alloc>(rt: &R, path: &[u8], into: &mut [u8]) -> io::Result<Loaded>
-    ensures { IfOk result (λ loaded. loaded.size ≤ length into.old) }
+// What cannot be read, and that this was said on standard error, where it could be.
+fn refuse(rt: &(impl Eprint + Alloc), what: &str, error: io::Error) -> Loaded
+    ensures { result.size ≤ 0 }
+{
+    match fail(rt, what, error) {
+        Ok(()) => unread(),
+        Err(_) => unread(),
+    }
+}
+
+// Reads a file into lent memory, or says on standard error why it cannot.
+pub fn load<R: Files + Eprint + Alloc>(rt: &R, path: &[u8], into: &mut [u8]) -> Loaded
+    ensures { result.size ≤ length into.old }
 {
     let Ok(name) = str::from_utf8(path) else {
-        let name = String::from_utf8_lossy(rt.alloc(), path)?;
-        fail(rt, name.as_str(), io::Error::from_raw_os_error(EILSEQ))?;
-        return Ok(unread());
+        let Ok(name) = String::from_utf8_lossy(rt.alloc(), path) else {
+            return unread();
+        };
+        return refuse(rt, name.as_str(), io::Error::from_raw_os_error(EILSEQ));
     };
     match read_named(rt, name, into) {
-        Ok(size) => Ok(Loaded { read: true, size }),
-        Err(error) => {
-            fail(rt, name, error)?;
-            Ok(unread())
-        }
+        Ok(size) => Loaded { read: true, size },
+        Err(error) => refuse(rt, name, error),
     }
 }
 
@@ -100,24 +108,17 @@ fn read_named<R: Files>(rt: &R, name: &str, into: &mut [u8]) -> io::Result<usize
 }
 
 // The file that argument i names.
-pub fn load_argument<R: Files + Env + Eprint + Alloc>(
-    rt: &R,
-    i: usize,
-    into: &mut [u8],
-) -> io::Result<Loaded>
-    ensures { IfOk result (λ loaded. loaded.size ≤ length into.old) }
+pub fn load_argument<R: Files + Env + Eprint + Alloc>(rt: &R, i: usize, into: &mut [u8]) -> Loaded
+    ensures { result.size ≤ length into.old }
 {
     let mut path = [0u8; 4096];
     match rt.arg(i, &mut path) {
         Ok(size) => load(rt, &path[..size], into),
-        Err(error) => {
-            fail(
-                rt,
-                "argument",
-                io::Error::from_raw_os_error(number_of(error)),
-            )?;
-            Ok(unread())
-        }
+        Err(error) => refuse(
+            rt,
+            "argument",
+            io::Error::from_raw_os_error(number_of(error)),
+        ),
     }
 }
 

@@ -2,7 +2,7 @@
 // It reads the files sheet and log, or the two that its arguments name.
 #![tactic(auto)]
 
-ghost use Rattle.std.specs.Prelude.{◌≤◌, length, take, IfOk, OnOk};
+ghost use Rattle.std.specs.Prelude.{◌≤◌, length, take, OnOk};
 ghost use Rattle.std.specs.Io.KnownBytes.{Appends};
 ghost use Rattle.report.specs.Printing.{report_of};
 
@@ -21,8 +21,8 @@ fn load_or_usual<R: Files + Env + Eprint + Alloc>(
     i: usize,
     usual: &[u8],
     into: &mut [u8],
-) -> io::Result<files::Loaded>
-    ensures { IfOk result (λ loaded. loaded.size ≤ length into.old) }
+) -> files::Loaded
+    ensures { result.size ≤ length into.old }
 {
     if !has_argument(rt, 1) {
         return files::load(rt, usual, into);
@@ -47,11 +47,11 @@ fn main(rt: HostRuntime) -> io::Result<()> {
     if has_argument(&rt, 3) {
         return eprintln!(rt; "usage: satskhubo [SHEET LOG]");
     }
-    let s = load_or_usual(&rt, 1, b"sheet", &mut sheet)?;
+    let s = load_or_usual(&rt, 1, b"sheet", &mut sheet);
     if !s.read {
         return Ok(());
     }
-    let l = load_or_usual(&rt, 2, b"log", &mut log)?;
+    let l = load_or_usual(&rt, 2, b"log", &mut log);
     if !l.read {
         return Ok(());
     }
