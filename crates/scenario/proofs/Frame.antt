@@ -127,7 +127,7 @@ as_they_are : (rs : List Row) → map (renamed (λ m. m)) rs ≡ rs
 as_they_are [] = refl
 as_they_are (k ∷ rs) = ap₂ (λ x xs. x ∷ xs) (renamed-not k) (as_they_are rs)
 
-walk_same : (run : Run) (D : ℕ → Type 0) (rs : List Row) → All (λ (k : Row). All D (needs k)) rs → (e e' : Env) → Same D e e' → stopped (walk run e rs) ≡ stopped (walk run e' rs)
+pub walk_same : (run : Run) (D : ℕ → Type 0) (rs : List Row) → All (λ (k : Row). All D (needs k)) rs → (e e' : Env) → Same D e e' → stopped (walk run e rs) ≡ stopped (walk run e' rs)
 walk_same run D rs h e e' A =
     ap (λ (l : List Row). stopped (walk run e l)) (sym (as_they_are rs))
     ∙ stopped-renamed run (λ m. m) D (λ p. Unit {0}) (λ m p d i. refl) rs (all_map (λ k d. (d, all-elem (λ p. Unit {0}) (introduced k) (λ p t. tt))) rs h) e e' A

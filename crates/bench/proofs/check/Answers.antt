@@ -1,3 +1,4 @@
+-- `check` meets its contract.
 use mathlib.Core.Path.{sym, ap, ◌∙◌}
 use Rattle.findings.specs.Findings.{host_number}
 use Rattle.findings.proofs.Telling.{number-refused, number-violated, number-holds}

@@ -5,7 +5,7 @@ use Prim.Native.Nat.{◌<◌}
 use native.Mathlib.Omega.{arith}
 use Rattle.columns.proofs.Scan.{scan-low, scan-high, scan-on, scan-end, scan-end-over, digits_below, fewer_digits, led_empty, led_long, led_zero, led_one, led_more}
 use Rattle.columns.proofs.digits.Goals as goal
-use Rattle.columns.proofs.digits.Goals.{At-loop-i, Then-s-lt-MOST_DIGITS, else-s-eq-ZERO, then-s-eq-ZERO+else-s-gt1}
+use Rattle.columns.proofs.digits.Goals.{At-loop-i, Then-s-lt-MOST_DIGITS}
 
 -- so few digits are far below 64 bits
 small : (c : At-loop-i) → c.loop-i.v < 10000000000
@@ -23,7 +23,7 @@ returns-then-s-gt1 c = sym (led_zero _ c.if-s-eq-ZERO.true c.if-s-gt1.true)
 pub loop-i-init : goal.loop-i-init
 loop-i-init c =
     let some = c.if-s-eq0.false in
-    (search rules, search rules, elim c.if-s-eq-ZERO.branch [ then-s-eq-ZERO+else-s-gt1 w ↦ led_one _ some w.if-s-gt1.false | else-s-eq-ZERO w ↦ led_more _ some w.if-s-eq-ZERO.false ])
+    (search rules, search rules, grind (arith, led_one _ some, led_more _ some))
 
 pub returns-then-b-lt-ZERO : goal.returns-then-b-lt-ZERO
 returns-then-b-lt-ZERO c = sym (c.loop-i.invariant.2 ∙ scan-low _ c.loop-i.i (search rules) c.loop-i.v c.if-b-lt-ZERO.true)

@@ -27,9 +27,9 @@ returns-then-buf-width-2 c =
 
 pub write_number-requires : goal.write_number-requires
 write_number-requires c =
-    (fits-here (goal.at.write_number-requires c).Else-not-fits_in, omega (arith, c.if-buf-width.false, c.if-buf-width-2.false))
+    (fits-here (goal.at.write_number-requires c).Else-not-fits_in, omega arith)
 
 pub returns : goal.returns
 returns c =
     let a = c.args in
-    let told = made a.at a.width a.v a.buf.now (fits-here (goal.at.returns c).Else-not-fits_in) (omega (arith, c.if-buf-width.false, c.if-buf-width-2.false)) _ c.write_number.ensures in record { answer = told.0; memory = told.1 }
+    let told = made a.at a.width a.v a.buf.now (fits-here (goal.at.returns c).Else-not-fits_in) (omega arith) _ c.write_number.ensures in record { answer = told.0; memory = told.1 }

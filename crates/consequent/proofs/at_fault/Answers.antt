@@ -94,10 +94,10 @@ consequents-preserved c =
     let r = c.rows in
     let behind : (i : ℕ) → i < r.j → section_at c.args.rows.now i ≤ c.consequents.c + 1 = λ i h.
     elim c.if-count-j.branch [
-      | then-count-j v ↦ absurd (c.if-row-eq0.false v.row-is)
+      | then-count-j v ↦ absurd (omega (arith, v.row-is))
       | else-count-j+else-section_of-c+then-not-advance v ↦ omega (arith, sections_rise c.args.rows.now c.args.count c.args.k c.requires.1 i r.j h v.if-count-j.false, v.section_of.ensures, v.if-section_of-c.false)
     ] in
-    (search rules, simp length-set (search rules), env-is (goal.at.consequents-preserved c).Joined-count-j, sym (faults-on _ _ _ c.consequents.c _ _ (search rules) c.if-count-j.row (sym (row_is (goal.at.consequents-preserved c).Joined-count-j)) c.if-row-eq0.false) ∙ c.consequents.invariant.3, c.rows.invariant.0, behind)
+    (search rules, simp length-set (search rules), env-is (goal.at.consequents-preserved c).Joined-count-j, sym (faults-on _ _ _ c.consequents.c _ _ (search rules) c.if-count-j.row (sym (row_is (goal.at.consequents-preserved c).Joined-count-j)) (λ z. omega (arith, z))) ∙ c.consequents.invariant.3, c.rows.invariant.0, behind)
 
 pub returns : goal.returns
 returns c =

@@ -1,3 +1,4 @@
+-- What holds at each turn of the loops of `common`, and what falls.
 use Prim.Native.Nat.{◌≤◌}
 use Rattle.contradiction.proofs.Events.{CommonFrom}
 use Rattle.contradiction.proofs.common.Given as goal

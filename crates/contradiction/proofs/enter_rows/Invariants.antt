@@ -1,3 +1,4 @@
+-- What holds at each turn of the loops of `enter_rows`, and what falls.
 use Prim.Native.Nat.{◌≤◌}
 use Rattle.links.specs.Table.{told, Tells, leads_on}
 use Rattle.contradiction.specs.Table.{places}

@@ -1,3 +1,4 @@
+-- What holds at each turn of the loops of `some_row`, and what falls.
 use mathlib.Core.Path.{◌≡◌}
 use Prim.Native.Nat.{◌-◌, ◌≤◌}
 use Rattle.row.specs.Memory.{row_at, listed, rows_of}

@@ -1,3 +1,4 @@
+-- What holds at each turn of the loops of `copy_section`, and what falls.
 use mathlib.Core.Path.{◌≡◌}
 use Prim.Native.Nat.{◌≤◌, ◌-◌, ◌+◌}
 use lib.ListN.{length}

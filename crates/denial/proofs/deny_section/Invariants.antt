@@ -1,3 +1,4 @@
+-- What holds at each turn of the loops of `deny_section`, and what falls.
 use mathlib.Core.Path.{◌≡◌}
 use Prim.Native.Nat.{◌≤◌, ◌-◌}
 use Rattle.denial.specs.Build.{denial_from}

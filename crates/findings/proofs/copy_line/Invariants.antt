@@ -1,3 +1,4 @@
+-- What holds at each turn of the loops of `copy_line`, and what falls.
 use mathlib.Core.Path.{◌≡◌}
 use mathlib.Core.List.{◌++◌}
 use Prim.Native.Nat.{◌-◌, ◌≤◌}

@@ -1,3 +1,4 @@
+-- What falls in `bring`.
 use Rattle.introduction.proofs.+bring.Given as goal
 
 abbrev pub decreases-bring : goal.decreases-bring

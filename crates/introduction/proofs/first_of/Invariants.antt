@@ -1,3 +1,4 @@
+-- What holds at each turn of the loops of `first_of`, and what falls.
 use Prim.Native.Nat.{◌≤◌, ◌-◌}
 use Rattle.introduction.specs.Bringing.{NoneBefore}
 use Rattle.introduction.proofs.first_of.Given as goal

@@ -1,3 +1,4 @@
+-- What holds at each turn of the loops of `last_wanted`, and what falls.
 use mathlib.Core.Path.{◌≡◌}
 use Prim.Native.Nat.{◌≤◌}
 use Rattle.introduction.specs.Bringing.{brought}

@@ -1,6 +1,7 @@
 -- `led_to` meets its contract: the table tells where the section's rows from number i on lead.
-use mathlib.Core.Path.{sym, ◌∙◌, subst}
+use mathlib.Core.Path.{◌≡◌, sym, ◌∙◌, subst}
 use mathlib.Core.List.{List}
+use Prim.Native.Nat.{ℕ}
 use native.Mathlib.Omega.{arith}
 use Rattle.scenario.specs.Links.{Link, leads}
 use Rattle.row.specs.Memory.{line_in}
@@ -10,6 +11,10 @@ use Rattle.order.proofs.Entering.{is-low, none-entered, other-section, other-kin
 use borrow.Author.Rules.{rules}
 use Rattle.order.proofs.led_to.Goals as goal
 
+-- the section's number, by arithmetic
+the-section : (s t : ℕ) → s ≡ t → s ≡ t
+the-section s t e = e
+
 pub loop-i-init : goal.loop-i-init
 loop-i-init c = (search rules, none-entered _ _ _ _ _ c.begin.ensures)
 
@@ -18,7 +23,7 @@ unfolding line_in
 loop-i-preserved-then-section_of-section c =
     let l = c.loop-i in
     let a = c.args in
-    let e = other-section a.rows.now a.section a.upward l.i a.n c.loop-i-test.true l.invariant.0 (λ q. c.if-section_of-section.true (c.section_of.ensures ∙ q)) in
+    let e = other-section a.rows.now a.section a.upward l.i a.n c.loop-i-test.true l.invariant.0 (λ q. let s : c.section_of.result ≡ a.section = c.section_of.ensures ∙ q in omega arith) in
     (omega (arith, l.invariant.0), subst (λ (ls : List Link). Tells places l.table (leads ls)) (sym e) l.invariant.1)
 
 pub loop-i-preserved-then-kind_of-ne-BEFORE : goal.loop-i-preserved-then-kind_of-ne-BEFORE
@@ -26,7 +31,7 @@ unfolding line_in
 loop-i-preserved-then-kind_of-ne-BEFORE c =
     let l = c.loop-i in
     let a = c.args in
-    let e = other-kind a.rows.now a.section a.upward l.i a.n c.loop-i-test.true l.invariant.0 (sym c.section_of.ensures ∙ c.if-section_of-section.false) (λ q. c.if-kind_of-ne-BEFORE.true (c.kind_of.ensures ∙ q)) in
+    let e = other-kind a.rows.now a.section a.upward l.i a.n c.loop-i-test.true l.invariant.0 (sym c.section_of.ensures ∙ the-section c.section_of.result c.args.section (omega arith)) (λ q. c.if-kind_of-ne-BEFORE.true (c.kind_of.ensures ∙ q)) in
     (omega (arith, l.invariant.0), subst (λ (ls : List Link). Tells places l.table (leads ls)) (sym e) l.invariant.1)
 
 pub enter_row-requires : goal.enter_row-requires
@@ -37,7 +42,7 @@ unfolding line_in
 loop-i-preserved c =
     let l = c.loop-i in (
       search rules,
-      row-entered _ _ _ l.i _ c.loop-i-test.true l.invariant.0 (sym c.section_of.ensures ∙ c.if-section_of-section.false) (sym c.kind_of.ensures ∙ c.if-kind_of-ne-BEFORE.false)
+      row-entered _ _ _ l.i _ c.loop-i-test.true l.invariant.0 (sym c.section_of.ensures ∙ the-section c.section_of.result c.args.section (omega arith)) (sym c.kind_of.ensures ∙ c.if-kind_of-ne-BEFORE.false)
           c.line_at.result c.line_at.ensures l.table _ l.invariant.1 c.enter_row.ensures,
     )
 

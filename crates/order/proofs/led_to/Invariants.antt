@@ -1,3 +1,4 @@
+-- What holds at each turn of the loops of `led_to`, and what falls.
 use Prim.Native.Nat.{◌-◌, ◌≤◌}
 use Rattle.scenario.specs.Links.{leads}
 use Rattle.links.specs.Table.{Tells}

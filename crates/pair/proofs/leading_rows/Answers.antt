@@ -18,7 +18,7 @@ returns-then-section_of-ne0 c =
 pub loop-j-preserved : goal.loop-j-preserved
 loop-j-preserved c =
     let a = c.args in
-    (search rules, omega (arith, lead_on a.rows.now a.count c.loop-j.j (search rules) c.section_of.result c.section_of.ensures c.if-section_of-ne0.false, c.loop-j.invariant.1))
+    (search rules, omega (arith, lead_on a.rows.now a.count c.loop-j.j (search rules) c.section_of.result c.section_of.ensures (omega arith), c.loop-j.invariant.1))
 
 pub returns : goal.returns
 returns c =

@@ -1,3 +1,4 @@
+-- What holds at each turn of the loops of `leading_rows`, and what falls.
 use mathlib.Core.Path.{◌≡◌}
 use Prim.Native.Nat.{◌+◌, ◌≤◌, ◌-◌}
 use Rattle.row.specs.Memory.{listed, tag_at, tags_of}

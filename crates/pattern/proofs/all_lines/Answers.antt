@@ -1,4 +1,5 @@
 -- `all_lines` meets its contract: the positions from number j on are lines' exactly when all are.
+use native.Mathlib.Omega.{arith}
 use Rattle.pattern.proofs.Matching.{position_low, position_high, position_on, position_end}
 use mathlib.Core.Path.{refl, sym, ◌∙◌}
 use borrow.Author.Rules.{rules}
@@ -23,7 +24,7 @@ pub loop-j-preserved : goal.loop-j-preserved
 loop-j-preserved c =
     let a = c.args in
     let l = c.loop-j in
-    (search rules, sym (position_on a.n a.positions.now a.point_count l.j c.requires c.at-x.result c.at-x.ensures c.loop-j-test.true c.if-x-lt1.false c.if-n-x.false) ∙ l.invariant.1)
+    (search rules, sym (position_on a.n a.positions.now a.point_count l.j c.requires c.at-x.result c.at-x.ensures c.loop-j-test.true c.if-x-lt1.false (omega arith)) ∙ l.invariant.1)
 
 pub returns : goal.returns
 returns c =

@@ -1,3 +1,4 @@
+-- What holds at each turn of the loops of `all_lines`, and what falls.
 use Rattle.pattern.specs.Placing.{is_position}
 use Rattle.scenario.specs.Sheet.{all}
 use lib.ListN.{take, drop}

@@ -1,3 +1,4 @@
+-- What holds at each turn of the loops of `all_met`, and what falls.
 use Rattle.row.specs.Memory.{row_at, listed, rows_of}
 use Rattle.pattern.specs.Placing.{by}
 use Rattle.run.specs.Held.{run_held}

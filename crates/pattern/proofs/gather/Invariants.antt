@@ -1,3 +1,4 @@
+-- What holds at each turn of the loops of `gather`, and what falls.
 use Rattle.pattern.proofs.Points.{rest}
 use mathlib.Core.Path.{◌≡◌}
 use mathlib.Core.List.{◌++◌}

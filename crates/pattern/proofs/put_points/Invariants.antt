@@ -1,3 +1,4 @@
+-- What holds at each turn of the loops of `put_points`, and what falls.
 use Rattle.pattern.specs.Placing.{puts}
 use lib.ListN.{length, take, drop}
 use Prim.Native.Nat.{◌≤◌, ◌-◌}

@@ -1,3 +1,4 @@
+-- What holds at each turn of the loops of `lines_before`, and what falls.
 use Prim.Native.Nat.{ℕ, ◌-◌, ◌≤◌, ◌<◌}
 use lib.ListN.{get_or}
 use Rattle.run.specs.Words.{ticks_in, line_count}

@@ -1,3 +1,4 @@
+-- What holds at each turn of the loops of `read_lines`, and what falls.
 use Prim.Native.Nat.{◌≤◌, ◌-◌}
 use Rattle.runlog.proofs.Loop.{Left, From}
 use Rattle.runlog.proofs.read_lines.Given as goal

@@ -1,3 +1,4 @@
+-- What holds at each turn of the loops of `weigh_sections`, and what falls.
 use Prim.Native.Nat.{◌≤◌, ◌-◌}
 use Rattle.sheet.proofs.Count.{Sums}
 use Rattle.sheet.proofs.weigh_sections.Given as goal

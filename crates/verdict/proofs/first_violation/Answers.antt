@@ -93,17 +93,17 @@ pub returns-then-not-next : goal.returns-then-not-next
 returns-then-not-next c =
     c.unviolated-then-not-next.ensures
     ∙ no_other (held (goal.at.returns-then-not-next c).Start) (H (goal.at.returns-then-not-next c).Start) (rows (goal.at.returns-then-not-next c).Start) (count (goal.at.returns-then-not-next c).Start) (k (goal.at.returns-then-not-next c).Start) (S (goal.at.returns-then-not-next c).Start) (plan (goal.at.returns-then-not-next c).Start) (P (goal.at.returns-then-not-next c).Start) c.loop-positions.positions c.loop-positions.invariant (left (goal.at.returns-then-not-next c).After-at_fault-met) c.at_fault-met.ensures.kept
-    c.at_fault-met.result c.at_fault-met.ensures.met c.if-met-eq0.false (reaches (goal.at.returns-then-not-next c).Start) (X (goal.at.returns-then-not-next c).Start) (sym (c.if-not-next.true) ∙ c.next.ensures.found)
+    c.at_fault-met.result c.at_fault-met.ensures.met (λ z. omega (arith, z)) (reaches (goal.at.returns-then-not-next c).Start) (X (goal.at.returns-then-not-next c).Start) (sym (c.if-not-next.true) ∙ c.next.ensures.found)
 
 pub loop-positions-smaller : goal.loop-positions-smaller
 loop-positions-smaller c =
     falls (held (goal.at.loop-positions-smaller c).Start) (H (goal.at.loop-positions-smaller c).Start) (rows (goal.at.loop-positions-smaller c).Start) (count (goal.at.loop-positions-smaller c).Start) (k (goal.at.loop-positions-smaller c).Start) (S (goal.at.loop-positions-smaller c).Start) (plan (goal.at.loop-positions-smaller c).Start) (P (goal.at.loop-positions-smaller c).Start) c.loop-positions.positions c.loop-positions.invariant (left (goal.at.loop-positions-smaller c).After-at_fault-met) c.at_fault-met.ensures.kept
-    c.at_fault-met.result c.at_fault-met.ensures.met c.if-met-eq0.false (reaches (goal.at.loop-positions-smaller c).Start) (X (goal.at.loop-positions-smaller c).Start) c.next.new.positions (c.next.ensures.stands (c.if-not-next.false))
+    c.at_fault-met.result c.at_fault-met.ensures.met (λ z. omega (arith, z)) (reaches (goal.at.loop-positions-smaller c).Start) (X (goal.at.loop-positions-smaller c).Start) c.next.new.positions (c.next.ensures.stands (c.if-not-next.false))
 
 pub loop-positions-preserved : goal.loop-positions-preserved
 loop-positions-preserved c =
     goes_on (held (goal.at.loop-positions-preserved c).Start) (H (goal.at.loop-positions-preserved c).Start) (rows (goal.at.loop-positions-preserved c).Start) (count (goal.at.loop-positions-preserved c).Start) (k (goal.at.loop-positions-preserved c).Start) (S (goal.at.loop-positions-preserved c).Start) (plan (goal.at.loop-positions-preserved c).Start) (P (goal.at.loop-positions-preserved c).Start) c.loop-positions.positions c.loop-positions.invariant (left (goal.at.loop-positions-preserved c).After-at_fault-met) c.at_fault-met.ensures.kept
-    c.at_fault-met.result c.at_fault-met.ensures.met c.if-met-eq0.false (reaches (goal.at.loop-positions-preserved c).Start) (X (goal.at.loop-positions-preserved c).Start) c.next.new.positions (c.next.ensures.stands (c.if-not-next.false))
+    c.at_fault-met.result c.at_fault-met.ensures.met (λ z. omega (arith, z)) (reaches (goal.at.loop-positions-preserved c).Start) (X (goal.at.loop-positions-preserved c).Start) c.next.new.positions (c.next.ensures.stands (c.if-not-next.false))
 
 pub first-requires : goal.first-requires
 first-requires c =

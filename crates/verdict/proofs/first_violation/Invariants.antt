@@ -1,3 +1,4 @@
+-- What holds at each turn of the loops of `first_violation`, and what falls.
 use mathlib.Core.List.{map}
 use lib.ListN.{length}
 use Rattle.scenario.specs.Rows.{points}
