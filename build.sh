@@ -119,7 +119,7 @@ build_archive() {
     if [ -f "$archive" ]; then
         say "the library is older than its sources: proving and building what has changed"
     else
-        say "proving and building the library: this is done once, and may take an hour"
+        say "proving and building the library: this is done once, and takes a while"
     fi
     rm -f target/archive.built
     touch "$lock"

@@ -39,7 +39,7 @@ printf '#!/bin/sh\nif [ "$*" = --version ]; then echo version; exit; fi\nfor wor
 chmod +x cli/target/release/satskhubo
 "#;
 
-const PROGRESS: &str = "satskhubo: proving and building the library: this is done once, and may take an hour
+const PROGRESS: &str = "satskhubo: proving and building the library: this is done once, and takes a while
 proved 1 of 3: columns
 proved 2 of 3: sheet
 proved 3 of 3: bench
