@@ -15,7 +15,7 @@ use Rattle.row.specs.Row.{row_in}
 use Rattle.row.specs.Memory.{line_in, lines_in, row_at, tags_of}
 use Rattle.row.proofs.Memory.{listed-lines}
 use Rattle.scenario.proofs.Numbers.{any-kind}
-use Rattle.sheet.specs.declared.Answer.{Answer}
+use Rattle.sheet.specs.Reading.{Answer}
 use Rattle.sheet.specs.Held.{sheet_at, SheetLoaded}
 use Rattle.sheet.specs.Text.{numbers_of}
 use Rattle.sheet.proofs.Theorems.{tag}

@@ -22,7 +22,7 @@ use Rattle.sheet.specs.Held.{sheet_at, SheetLoaded}
 use Rattle.row.specs.Memory.{lay}
 use Rattle.sheet.proofs.Theorems.{AcceptedSheet, accepted-sheet}
 use Rattle.runlog.specs.Log.{answer as log-answer, run_in}
-use Rattle.antiscenario.specs.declared.Judged.{Judged}
+use Rattle.antiscenario.specs.Judge.{Judged}
 use Rattle.antiscenario.specs.Judge.{refusal_of, judge_of}
 use Rattle.antiscenario.specs.Plain.{ReadsAs}
 use Rattle.antiscenario.specs.Write.{written_lines, written_text}

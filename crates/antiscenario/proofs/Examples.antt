@@ -18,7 +18,7 @@ use Rattle.rules.specs.Rules.{refusal, section_fits, refusal_within, origin_fits
 use Rattle.sheet.specs.Reading.{answer, taken, closing, head_of, rows_from, row_bytes, after, sheet_of, section, sections}
 use Rattle.sheet.specs.Text.{sheet_text, head_text, rows_text, row_text, numbers_of}
 use Rattle.runlog.specs.Log.{answer as log-answer, taken as log-taken, closing as log-closing, head_of as log-head, lines_from, line_bytes, line_of as log-line, log_of}
-use Rattle.antiscenario.specs.declared.Judged.{Judged}
+use Rattle.antiscenario.specs.Judge.{Judged}
 use Rattle.denial.specs.Build.{line_from}
 use Rattle.antiscenario.specs.Write.{written_lines, written_text}
 use Rattle.antiscenario.specs.Judge.{refusal_of, judge_of}

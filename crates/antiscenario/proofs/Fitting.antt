@@ -16,7 +16,7 @@ use Rattle.scenario.proofs.Halves.{lower_half-fits, upper_half-fits, complement-
 use Rattle.row.specs.declared.Line.{Line}
 use Rattle.row.specs.Row.{row_in}
 use Rattle.row.specs.Memory.{line_in, lines_in}
-use Rattle.sheet.specs.declared.Answer.{Answer}
+use Rattle.sheet.specs.Reading.{Answer}
 use Rattle.sheet.specs.Held.{sheet_at, SheetLoaded}
 use Rattle.sheet.specs.Count.{weigh_line, product}
 use Rattle.sheet.specs.Text.{Fits, numbers_of}

@@ -16,7 +16,7 @@ use Rattle.row.specs.declared.Line.{Line}
 use Rattle.row.specs.Row.{row_in}
 use Rattle.row.specs.Memory.{lay, lines_in, row_at, rows_of}
 use Rattle.row.proofs.Memory.{listed-lines, lines-back, lay-length}
-use Rattle.sheet.specs.declared.Answer.{Answer}
+use Rattle.sheet.specs.Reading.{Answer}
 use Rattle.sheet.specs.Reading.{sheet_in, count_in, taken, answer}
 use Rattle.sheet.specs.Count.{product}
 use Rattle.sheet.specs.Text.{Fits, numbers_of}

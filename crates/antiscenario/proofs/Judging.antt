@@ -9,14 +9,14 @@ use borrow.Author.Tests.{eq-eqb, ne_eqb}
 use Rattle.scenario.specs.Rows.{Row, Run, points}
 use Rattle.scenario.specs.Log.{run_of}
 use Rattle.scenario.specs.Sheet.{antiscenario, matching}
-use Rattle.sheet.specs.declared.Answer.{Answer as SheetAnswer}
+use Rattle.sheet.specs.Reading.{Answer as SheetAnswer}
 use Rattle.sheet.specs.Reading.{answer as sheet-answer, sheet_in}
 use Rattle.row.specs.Memory.{rows_of}
-use Rattle.runlog.specs.declared.Answer.{Answer as LogAnswer}
+use Rattle.runlog.specs.Log.{Answer as LogAnswer}
 use Rattle.runlog.specs.Log.{answer as log-answer, run_in}
 use Rattle.run.specs.Held.{run_held}
 use Rattle.runlog.specs.Held.{Loaded}
-use Rattle.antiscenario.specs.declared.Judged.{Judged}
+use Rattle.antiscenario.specs.Judge.{Judged}
 use Rattle.antiscenario.specs.Numbers.{number_refusal}
 use Rattle.antiscenario.specs.Held.{AntiscenarioHeld, Ready}
 use Rattle.antiscenario.specs.Judge.{refusal_of, unjudged, judge_of}

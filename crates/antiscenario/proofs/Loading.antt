@@ -8,7 +8,7 @@ use native.Mathlib.Omega.{arith}
 use lib.Dec.{T, leb, leb→le}
 use borrow.Author.Tests.{eq-eqb, ne_eqb}
 use Rattle.scenario.proofs.Base.{both}
-use Rattle.sheet.specs.declared.Answer.{Answer}
+use Rattle.sheet.specs.Reading.{Answer}
 use Rattle.sheet.specs.Reading.{sheet_in, answer}
 use Rattle.antiscenario.specs.Numbers.{no_such_number, number_refusal, text_refusal}
 use Rattle.antiscenario.specs.Held.{AntiscenarioHeld, TextHeld}

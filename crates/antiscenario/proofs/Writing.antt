@@ -12,7 +12,7 @@ use Rattle.row.specs.Memory.{lines_in}
 use Rattle.sheet.specs.Reading.{answer}
 use Rattle.sheet.specs.Text.{sheet_text}
 use Rattle.sheet.proofs.Texts.{sheet_text-length}
-use Rattle.antiscenario.specs.declared.Written.{Written}
+use Rattle.antiscenario.specs.Write.{Written}
 use Rattle.antiscenario.specs.Numbers.{no_such_number, text_refusal}
 use Rattle.antiscenario.specs.Held.{TextHeld}
 use Rattle.antiscenario.specs.Write.{no_text, written_lines, written_text, write_of, after_write}

@@ -3,3 +3,4 @@ pub mod Held
 pub mod Write
 pub mod Plain
 pub mod Judge
+pub mod Numbered

@@ -5,7 +5,6 @@ use Rattle.scenario.specs.Fields.{written}
 use Rattle.row.specs.declared.Line.{Line}
 use Rattle.sheet.specs.Reading.{sheet_of, taken, answer}
 use Rattle.sheet.specs.Text.{sheet_text, numbers_of}
-use Rattle.antiscenario.specs.declared.Written.{Written}
 use Rattle.antiscenario.specs.Numbers.{no_such_number, buffer_too_short}
 
 -- the rows of an antiscenario of a sheet's text, with their sections
@@ -15,6 +14,11 @@ written_lines s number = map numbers_of (written (sheet_of (answer s).k (taken s
 -- "It is written as a sheet's first line (k, its row count) and rows, each with the section it came from."
 unfoldable pub written_text : (s : List ℕ) (number : ℕ) → List ℕ
 written_text s number = sheet_text (answer s).k (written_lines s number)
+
+-- What writing gives: the refusal, or 0 and the text's length.
+pub record Written : Type 0 where
+  pub refusal : ℕ
+  pub length : ℕ
 
 abbrev pub no_text : ℕ → Written
 no_text refusal = record { refusal = refusal; length = 0 }

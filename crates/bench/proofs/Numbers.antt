@@ -6,17 +6,21 @@ use mathlib.Core.List.{List}
 use Prim.Native.Nat.{ℕ}
 use lib.Dec.{eqb}
 use borrow.Author.Tests.{eq-eqb, ne_eqb}
-use Rattle.columns.specs.declared.Field.{Field}
-use Rattle.columns.specs.declared.Field.TheVariants.{Value, Bad}
+use Rattle.std.specs.Prelude.{Option, Some, None, Result, Ok, Err}
+use Rattle.std.specs.Result.{result_unwrap_or}
+use Rattle.refusal.specs.declared.Refusal.{Refusal}
+use Rattle.refusal.specs.Refusal.{number, refused_with}
+use Rattle.refusal.proofs.Numbers.{is_refused}
 use Rattle.scenario.specs.Rows.{Run}
 use Rattle.scenario.specs.Sheet.{Sheet, Answer, nothing, found}
 use Rattle.scenario.specs.Search.{check}
 use Rattle.sheet.specs.Reading.{sheet_in, answer as sheet-answer}
 use Rattle.runlog.specs.Log.{run_in, answer as log-answer}
-use Rattle.verdict.specs.Check.{blank, violated_at, verdict_of, check_of}
-use Rattle.limit.specs.declared.Limited.{Limited}
+use Rattle.verdict.specs.Check.{Checked, blank, violated_at, verdict_of, check_of}
+use Rattle.limit.specs.Limit.{Limited}
+use Rattle.search.specs.Searching.{answered}
 use Rattle.findings.specs.Findings.{host_number, when_violated, fronted}
-use Rattle.findings.proofs.Telling.{Told, told_same}
+use Rattle.findings.proofs.Telling.{Told, told_same, unviolated_keeps}
 use Rattle.bench.specs.Host.{limited_number, unless_refused, field_number, field_value}
 
 -- The number of a check with a limit
@@ -54,6 +58,19 @@ refused_unviolated s l n = go (eqb (sheet-answer s).refusal 0) (eqb (log-answer 
     go true false n = refl
     go true true n = judged_unviolated (run_in l) (sheet_in s) (check (run_in l) (sheet_in s)) n
 
+-- Lent memory, of an operation whose answer is seen as a record with the refusal's number: what `store` leaves there is the field, or what was there
+module _ {A R : Type 0} (view : Result A Refusal → R) (refusal : R → ℕ) (field : R → A) where
+  pub record Seen : Type 0 where
+    pub accepted : (v : A) → refusal (view (Ok v)) ≡ 0
+    pub found : (v : A) → field (view (Ok v)) ≡ v
+    pub refused : (r : Refusal) → refusal (view (Err r)) ≡ number r
+
+  pub stored : Seen → (answer : Result A Refusal) (old : A)
+      → (refused_with answer ≡ refusal (view answer)) × (result_unwrap_or answer old ≡ unless_refused (refusal (view answer)) (field (view answer)) old)
+  unfolding unless_refused
+  stored S (Ok v) old = (sym (S.accepted v), rw (eq-eqb _ 0 (S.accepted v)) (sym (S.found v)))
+  stored S (Err r) old = (sym (S.refused r), rw (ne_eqb _ 0 (λ z. is_refused r (sym (S.refused r) ∙ z))))
+
 -- Lent memory: r is the refusal that the program has, s the definition's
 
 module _ {A : Type 0} where
@@ -81,10 +98,21 @@ module _ (c d : Limited) (e : c ≡ d) (z : c.checked.refusal ≡ 0) where
         (q.1.1.0, (q.1.1.1.0, (q.1.1.1.1, ((answered_writes _ _ _ _ _ refusal z (ap (λ (r : Limited). r.looked) e)).1, (answered_writes _ _ _ _ _ refusal z (ap (λ (r : Limited). r.after) e)).1)))),
       )
 
+-- Findings that stay as they were, where nothing is violated
+pub told_nothing : (c : Checked) (n : ℕ) → n ≡ host_number c → c.violated ≡ false → (positions : List ℕ) (points : ℕ) (rows : List ℕ) (consequents : ℕ)
+    → Told c n positions positions points points rows rows consequents consequents
+told_nothing c n e v positions points rows consequents =
+    (e, (unviolated_keeps c _ _ v, (unviolated_keeps c _ _ v, (unviolated_keeps c _ _ v, unviolated_keeps c _ _ v))))
+
 -- Fields
 
-pub bad_field : (f : Field) (old : ℕ) → f ≡ Bad → (1 ≡ field_number f) × (old ≡ field_value f old)
+pub bad_field : (f : Option ℕ) (old : ℕ) → f ≡ None → (1 ≡ field_number f) × (old ≡ field_value f old)
 bad_field f old e = (rw e, rw e)
 
-pub good_field : (f : Field) (v old : ℕ) → f ≡ Value v → (0 ≡ field_number f) × (v ≡ field_value f old)
+pub good_field : (f : Option ℕ) (v old : ℕ) → f ≡ Some v → (0 ≡ field_number f) × (v ≡ field_value f old)
 good_field f v old e = (rw e, rw e)
+
+-- A search leaves its places the same, whatever it answers
+pub places-are : (r : Result Bool Refusal) (places : List ℕ) → places ≡ (answered r places).places
+places-are (Ok hit) places = refl
+places-are (Err r) places = refl

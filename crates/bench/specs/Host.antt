@@ -1,11 +1,8 @@
 -- What a host gets: one number, and what its memory holds afterwards. What must be believed.
 -- Assumes nothing.
-use Rattle.std.specs.Prelude.{cond, ℕ, eqb}
-use Rattle.columns.specs.declared.Field.{Field}
-use Rattle.columns.specs.declared.Field.TheVariants.{Value, Bad}
-use Rattle.columns.specs.declared.Entry.{Entry}
-use Rattle.columns.specs.declared.Entry.TheVariants.{Written, Refused}
-use Rattle.limit.specs.declared.Limited.{Limited}
+use Rattle.std.specs.Prelude.{cond, ℕ, eqb, Option, Some, None, Result, Ok, Err}
+use Rattle.columns.specs.declared.Misfit.{Misfit}
+use Rattle.limit.specs.Limit.{Limited}
 use Rattle.findings.specs.Findings.{host_number}
 
 -- document 02, A10: "stopped" is a third answer, 102
@@ -18,14 +15,14 @@ module _ {A : Type 0} where
   unless_refused refusal value old = cond (eqb refusal 0) value old
 
 -- a field: 0 and its value, or 1 and what was there
-abbrev pub field_number : Field → ℕ
-field_number (Value v) = 0
-field_number Bad = 1
+abbrev pub field_number : Option ℕ → ℕ
+field_number (Some v) = 0
+field_number None = 1
 
-abbrev pub field_value : Field → (old : ℕ) → ℕ
-field_value (Value v) old = v
-field_value Bad old = old
+abbrev pub field_value : Option ℕ → (old : ℕ) → ℕ
+field_value (Some v) old = v
+field_value None old = old
 
-abbrev pub entry_number : Entry → ℕ
-entry_number Written = 0
-entry_number Refused = 1
+abbrev pub entry_number : Result (Unit {0}) Misfit → ℕ
+entry_number (Ok u) = 0
+entry_number (Err e) = 1

@@ -16,23 +16,43 @@ ghost use Rattle.ruling.specs.Ruling.{impossible_of};
 ghost use Rattle.line.specs.Showing.{part_of, shown_line};
 ghost use Rattle.findings.specs.Findings.{host_number, when_violated, fronted};
 ghost use Rattle.bench.specs.Host.{limited_number, unless_refused, field_number, field_value, entry_number};
+ghost use Rattle.std.specs.Result.{result_unwrap_or};
+ghost use Rattle.refusal.specs.Refusal.{refused_with};
+ghost use Rattle.line.specs.Numbered.{number_or_none};
+
+use limit::End;
+use refusal::Refusal;
 
 // Document 02, A10: the check has looked at as many matchings as it may, and there is one more.
 const STOPPED: u32 = 102;
+
+// Stores what an operation found in the caller's memory; refused, the memory stays, and the answer is the refusal's number.
+fn store<T: Copy>(answer: Result<T, Refusal>, memory: &mut T) -> u32
+    ensures answer { result ≡ refused_with answer }
+    ensures memory { memory.new ≡ result_unwrap_or answer memory.old }
+{
+    match answer {
+        Ok(finding) => {
+            *memory = finding;
+            0
+        }
+        Err(refusal) => refusal.number(),
+    }
+}
 
 // The check for the bench: the refusal's number, or else 0 for holds and 100 for violated.
 #[unsafe(no_mangle)]
 pub extern "C" fn check(sheet: &[u8], log: &[u8]) -> u32
     ensures { result ≡ host_number (check_of sheet.now log.now) }
 {
-    let c = verdict::check(sheet, log);
-    if c.refusal != 0 {
-        return c.refusal;
+    let verdict = match verdict::check(sheet, log) {
+        Ok(verdict) => verdict,
+        Err(refusal) => return refusal.number(),
+    };
+    match verdict {
+        Some(_) => findings::VIOLATED,
+        None => 0,
     }
-    if c.violated {
-        return findings::VIOLATED;
-    }
-    0
 }
 
 // Read a log: n.
@@ -41,12 +61,7 @@ pub extern "C" fn satskhubo_read_log(log: &[u8], lines: &mut u32) -> u32
     ensures answer { result ≡ (lines_read log.now).refusal }
     ensures memory { lines.new ≡ unless_refused (lines_read log.now).refusal (lines_read log.now).lines lines.old }
 {
-    let read = runlog::read_log(log);
-    if read.refusal != 0 {
-        return read.refusal;
-    }
-    *lines = read.lines;
-    0
+    store(runlog::read_log(log), lines)
 }
 
 // Read a sheet: N.
@@ -55,12 +70,7 @@ pub extern "C" fn satskhubo_read_sheet(sheet: &[u8], count: &mut u64) -> u32
     ensures answer { result ≡ (count_of sheet.now).refusal }
     ensures memory { count.new ≡ unless_refused (count_of sheet.now).refusal (count_of sheet.now).count count.old }
 {
-    let read = sheet::read_sheet(sheet);
-    if read.refusal != 0 {
-        return read.refusal;
-    }
-    *count = read.count;
-    0
+    store(sheet::read_sheet(sheet), count)
 }
 
 // Judge a placement of antiscenario `number`: whether it is a matching.
@@ -75,12 +85,7 @@ pub extern "C" fn satskhubo_judge(
     ensures answer { result ≡ (judge_of sheet.now log.now number placement.positions placement.count).refusal }
     ensures memory { met.new ≡ unless_refused (judge_of sheet.now log.now number placement.positions placement.count).refusal (judge_of sheet.now log.now number placement.positions placement.count).met met.old }
 {
-    let judged = antiscenario::judge(sheet, log, number, placement);
-    if judged.refusal != 0 {
-        return judged.refusal;
-    }
-    *met = judged.met;
-    0
+    store(antiscenario::judge(sheet, log, number, placement), met)
 }
 
 // Write antiscenario `number` into the buffer: the text's length.
@@ -96,11 +101,7 @@ pub extern "C" fn satskhubo_write(
     ensures size { size.new ≡ unless_refused (write_of sheet.now number (length buffer.old)).refusal (write_of sheet.now number (length buffer.old)).length size.old }
 {
     let written = antiscenario::write_antiscenario(sheet, number, buffer);
-    if written.refusal != 0 {
-        return written.refusal;
-    }
-    *size = written.length;
-    0
+    store(written, size)
 }
 
 // Whether antiscenario `number` is impossible (document 02, A6).
@@ -109,12 +110,7 @@ pub extern "C" fn satskhubo_impossible(sheet: &[u8], number: u64, impossible: &m
     ensures answer { result ≡ (impossible_of sheet.now number).refusal }
     ensures memory { impossible.new ≡ unless_refused (impossible_of sheet.now number).refusal (impossible_of sheet.now number).impossible impossible.old }
 {
-    let ruled = ruling::is_impossible(sheet, number);
-    if ruled.refusal != 0 {
-        return ruled.refusal;
-    }
-    *impossible = ruled.impossible;
-    0
+    store(ruling::is_impossible(sheet, number), impossible)
 }
 
 // Search antiscenario `number`: whether it has a matching, the smallest at the front of the places.
@@ -131,11 +127,7 @@ pub extern "C" fn satskhubo_search(
     ensures found { found.new ≡ unless_refused (search_of sheet.now log.now number places.old).refusal (search_of sheet.now log.now number places.old).hit found.old }
 {
     let answer = search::search_antiscenario(sheet, log, number, places);
-    if answer.refusal != 0 {
-        return answer.refusal;
-    }
-    *found = answer.hit;
-    0
+    store(answer, found)
 }
 
 // The check with its findings: the smallest placement that extends to no consequent, and the row at fault of each.
@@ -184,18 +176,33 @@ pub extern "C" fn satskhubo_check_limited(
     ensures looked { looked.new ≡ unless_refused (limited_of sheet.now log.now limit).checked.refusal (limited_of sheet.now log.now limit).looked looked.old }
     ensures after { after.new ≡ unless_refused (limited_of sheet.now log.now limit).checked.refusal (limited_of sheet.now log.now limit).after after.old }
 {
-    let c = limit::check_limited(sheet, log, limit);
-    let checked = c.checked;
-    let number = findings::tell(checked, positions, points, rows, consequents);
-    if checked.refusal != 0 {
-        return number;
+    let limited = match limit::check_limited(sheet, log, limit) {
+        Ok(limited) => limited,
+        Err(refusal) => return refusal.number(),
+    };
+    *looked = limited.looked;
+    *after = limited.after;
+    match limited.end {
+        End::Holds => 0,
+        End::Stopped => STOPPED,
+        End::Violated(violation) => findings::tell(
+            Ok(Some(violation)),
+            positions,
+            points,
+            rows,
+            consequents,
+        ),
     }
-    *looked = c.looked;
-    *after = c.after;
-    if c.stopped {
-        return STOPPED;
+}
+
+// A refusal's number, or 0 where nothing is refused.
+fn number_of(refusal: Option<Refusal>) -> u32
+    ensures { result ≡ number_or_none refusal }
+{
+    match refusal {
+        Some(refusal) => refusal.number(),
+        None => 0,
     }
-    number
 }
 
 // Show the line: the check's refusal, or 0, and the part that it is about. It refuses nothing.
@@ -213,10 +220,10 @@ pub extern "C" fn satskhubo_show(
     ensures size { size.new ≡ (part_of sheet.now log.now).to - (part_of sheet.now log.now).from }
 {
     let part = line::shown_part(sheet, log);
-    *within = part.log;
+    *within = part.text.is_log();
     *offset = part.from;
     *size = part.to - part.from;
-    part.refusal
+    number_of(part.refusal)
 }
 
 // Show the line itself: the check's refusal, or 0, and the bytes of the line that it is about in front of what was there. No line has
@@ -234,9 +241,9 @@ pub extern "C" fn satskhubo_line<'a>(
 {
     let part = line::shown_part(sheet, log);
     let shown = line::show_line(sheet, log);
-    findings::copy_line(shown, line);
+    line[..shown.len()].copy_from_slice(shown);
     *size = shown.len();
-    part.refusal
+    number_of(part.refusal)
 }
 
 // The number in the first `width` bytes: 0 and its value, or 1 where they are not well formed.
@@ -245,7 +252,7 @@ pub extern "C" fn satskhubo_read_field(text: &[u8], width: usize, value: &mut u3
     ensures answer { result ≡ field_number (field_at text.now width) }
     ensures memory { value.new ≡ field_value (field_at text.now width) value.old }
 {
-    let columns::Field::Value(v) = columns::number(text, width) else {
+    let Some(v) = columns::number(text, width) else {
         return 1;
     };
     *value = v;
@@ -263,9 +270,8 @@ pub extern "C" fn satskhubo_write_field(
     ensures answer { result ≡ entry_number (entry_of (length buffer.old) at width value) }
     ensures memory { buffer.new ≡ entered at width value buffer.old }
 {
-    let entry = columns::write_field(buffer, at, width, value);
-    match entry {
-        columns::Entry::Written => 0,
-        columns::Entry::Refused => 1,
+    match columns::write_field(buffer, at, width, value) {
+        Ok(()) => 0,
+        Err(_) => 1,
     }
 }

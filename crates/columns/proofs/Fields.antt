@@ -12,7 +12,7 @@ use borrow.Author.Tests.{le-leb, leb-true}
 use Rattle.columns.specs.Number.{field_at}
 use Rattle.columns.specs.Spell.{spell, fits_in}
 use Rattle.columns.specs.Entry.{has_field, entered}
-use Rattle.columns.specs.declared.Field.TheVariants.{Value}
+use Rattle.std.specs.Prelude.{Some}
 use Rattle.columns.proofs.Both.{both}
 use Rattle.columns.proofs.Fits.{fits-parts}
 use Rattle.columns.proofs.Spelling.{spell-read, only_spelling}
@@ -26,7 +26,7 @@ rest_is_unread s rest w h =
     rw (le-leb w (length (take w s ++ rest)) l, le-leb w (length s) h, take_at (take w s) rest w n)
 
 -- what is written into a field is read back
-pub written-is-read : (at w v : ℕ) (m : List ℕ) → v ≤ 4294967295 → has_field (length m) at w v ≡ true → field_at (drop at (entered at w v m)) w ≡ Value v
+pub written-is-read : (at w v : ℕ) (m : List ℕ) → v ≤ 4294967295 → has_field (length m) at w v ≡ true → field_at (drop at (entered at w v m)) w ≡ Some v
 unfolding has_field entered
 written-is-read at w v m k e =
     let t = both (fits_in w v) (leb (at + w) (length m)) e in
@@ -35,5 +35,5 @@ written-is-read at w v m k e =
     rw (e, drop_at (take at m) (spell w v ++ drop (at + w) m) at l) (spell-read w v (drop (at + w) m) f.0 f.1 k)
 
 -- a field that is read as v holds the bytes that writing v gives
-pub read-is-written : (s : List ℕ) (w v : ℕ) → field_at s w ≡ Value v → take w s ≡ spell w v
+pub read-is-written : (s : List ℕ) (w v : ℕ) → field_at s w ≡ Some v → take w s ≡ spell w v
 read-is-written s w v e = (only_spelling s w v e).1

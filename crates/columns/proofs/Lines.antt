@@ -11,7 +11,7 @@ use lib.Dec.{leb}
 use borrow.Author.Tests.{leb-true}
 use Rattle.columns.specs.Number.{after_spaces, all_digits, decimal, well_led, scan, numeral, field_at}
 use Rattle.columns.specs.Spell.{spell}
-use Rattle.columns.specs.declared.Field.TheVariants.{Value, Bad}
+use Rattle.std.specs.Prelude.{Some, None}
 use Rattle.columns.proofs.Padded.{bad_not}
 use Rattle.columns.proofs.Spelling.{spell-length, only_spelling}
 
@@ -24,16 +24,16 @@ module _ (w v : ℕ) where
   past m rest = sym (drop-drop m w (spell w v ++ rest)) ∙ ap (drop m) (spell-drop rest)
 
   -- a field that is read is its spelling, and the rest follows
-  pub peel : (t : List ℕ) → field_at t w ≡ Value v → t ≡ spell w v ++ drop w t
+  pub peel : (t : List ℕ) → field_at t w ≡ Some v → t ≡ spell w v ++ drop w t
   peel t e = sym (take-append-drop w t) ∙ ap (λ (x : List ℕ). x ++ drop w t) (only_spelling t w v e).1
 
 -- a field that is read is at most 4,294,967,295
-pub value_fits : (s : List ℕ) (w v : ℕ) → field_at s w ≡ Value v → v ≤ 4294967295
+pub value_fits : (s : List ℕ) (w v : ℕ) → field_at s w ≡ Some v → v ≤ 4294967295
 unfolding field_at numeral scan
 value_fits s w v e = go (leb w (length s)) (well_led (after_spaces (take w s))) (all_digits (after_spaces (take w s))) (leb (decimal 0 (after_spaces (take w s))) 4294967295) refl e
   where
     go : (a b c d : Bool) → leb (decimal 0 (after_spaces (take w s))) 4294967295 ≡ d
-        → cond a (cond b (cond (c && d) (Value (decimal 0 (after_spaces (take w s)))) Bad) Bad) Bad ≡ Value v → v ≤ 4294967295
+        → cond a (cond b (cond (c && d) (Some (decimal 0 (after_spaces (take w s)))) None) None) None ≡ Some v → v ≤ 4294967295
     go true true true true x e =
         let h = leb-true (decimal 0 (after_spaces (take w s))) 4294967295 x in
         let z : decimal 0 (after_spaces (take w s)) ≡ v = cc in

@@ -2,17 +2,20 @@
 -- Assumes nothing.
 use mathlib.Core.Path.{◌≡◌, refl}
 use mathlib.Core.List.{List, [], ◌∷◌}
-use mathlib.Core.Bool.{Bool, true, false, and-false}
+use mathlib.Core.Bool.{Bool, true, false, cond, not, and-false}
 use Prim.Native.Nat.{ℕ, zero, suc, ◌+◌, ◌*◌, ◌-◌, ◌^◌, ◌≤◌, ◌<◌}
 use native.Mathlib.Nat.{le_trans, le_refl, lt_of_lt_of_le, pow-suc, pow-le-pow_right}
 use native.Mathlib.Numerals.{add-one}
 use native.Mathlib.Omega.{arith}
 use lib.ListN.{length, take, drop, length-drop, get_or, drop_of_length-le}
 use lib.Seq.{drop-cons, take_all}
-use lib.Dec.{leb, eqb, lit<}
-use borrow.Author.Tests.{eq-eqb, ne_eqb, eqb-false, le-leb, lt-leb, leb-true}
+use lib.Dec.{leb, ltb, eqb, lit<}
+use borrow.Author.Tests.{eq-eqb, ne_eqb, eqb-false, le-leb, lt-leb, leb-true, ltb-false}
+use Rattle.std.specs.List.{position_or_len}
+use Rattle.std.specs.Option.{unwrap_or}
+use Rattle.std.proofs.Common.{Option, Some, None}
 use Rattle.columns.specs.Number.{after_spaces, decimal, scan, numeral}
-use Rattle.columns.specs.declared.Field.TheVariants.{Value, Bad}
+use Rattle.std.specs.Prelude.{Some, None}
 
 -- the part `&s[a..]`, as the borrow checker has it
 pub to_end : (a : ℕ) (s : List ℕ) → take (length s - a) (drop a s) ≡ drop a s
@@ -37,22 +40,35 @@ digits_below i v d h k = rw add-one (omega (arith, pow-suc 10 i))
 pub fewer_digits : (n i v : ℕ) → i ≤ n → v < 10 ^ i → v < 10 ^ n
 fewer_digits n i v h k = lt_of_lt_of_le k (pow-le-pow_right {n = 10} (lit< tt) {i = i} {j = n} h)
 
-pub space_end : (s : List ℕ) (i : ℕ) → length s ≤ i → drop i s ≡ after_spaces (drop i s)
-space_end s i h = rw (drop_of_length-le s h)
+-- how many spaces a list begins with
+abbrev pub gap : List ℕ → ℕ
+gap = position_or_len (λ b. not (eqb b 32))
+
+-- what stands after them
+pub gap_passed : (s : List ℕ) → (gap s ≤ length s) × (drop (gap s) s ≡ after_spaces s)
+gap_passed [] = (omega arith, refl)
+gap_passed (b ∷ s) = go (eqb b 32) refl (gap_passed s)
+  where
+    go : (t : Bool) → eqb b 32 ≡ t → (gap s ≤ length s) × (drop (gap s) s ≡ after_spaces s)
+        → (gap (b ∷ s) ≤ suc (length s)) × (drop (gap (b ∷ s)) (b ∷ s) ≡ after_spaces (b ∷ s))
+    go true e h = let n : 1 + gap s ≡ suc (gap s) = omega arith in simp (e, n) (omega arith, h.1)
+    go false e h = simp e (omega arith, refl)
+
+-- their number, where a search for another byte gives r
+pub gap_found : (s : List ℕ) (r : Option ℕ) → r ≡ cond (ltb (gap s) (length s)) (Some (gap s)) None → unwrap_or r (length s) ≡ gap s
+gap_found s r e = go (ltb (gap s) (length s)) refl
+  where
+    go : (t : Bool) → ltb (gap s) (length s) ≡ t → unwrap_or r (length s) ≡ gap s
+    go true f = rw (e, f)
+    go false f = rw (e, f) (omega (arith, ltb-false (gap s) (length s) f, (gap_passed s).0))
 
 module _ (s : List ℕ) (i : ℕ) (h : i < length s) where
-  pub space_on : get_or s i 0 ≡ 32 → after_spaces (drop i s) ≡ after_spaces (drop (i + 1) s)
-  space_on e = rw (add-one, drop-cons s i 0) (simp (eq-eqb _ _ e))
-
-  pub space_stop : (get_or s i 0 ≡ 32 → ⊥) → drop i s ≡ after_spaces (drop i s)
-  space_stop ne = rw (drop-cons s i 0) (simp (ne_eqb _ _ ne))
-
   module _ (v : ℕ) where
-    pub scan-low : get_or s i 0 < 48 → scan v (drop i s) ≡ Bad
+    pub scan-low : get_or s i 0 < 48 → scan v (drop i s) ≡ None
     unfolding scan
     scan-low lo = rw (drop-cons s i 0) (simp (lt-leb _ _ lo))
 
-    pub scan-high : 48 ≤ get_or s i 0 → 57 < get_or s i 0 → scan v (drop i s) ≡ Bad
+    pub scan-high : 48 ≤ get_or s i 0 → 57 < get_or s i 0 → scan v (drop i s) ≡ None
     unfolding scan
     scan-high lo hi = rw (drop-cons s i 0) (simp (le-leb _ _ lo, lt-leb _ _ hi))
 
@@ -60,21 +76,21 @@ module _ (s : List ℕ) (i : ℕ) (h : i < length s) where
     unfolding scan
     scan-on lo hi = rw (add-one, drop-cons s i 0) (simp (le-leb _ _ lo, le-leb _ _ hi))
 
-pub scan-end : (s : List ℕ) (i v : ℕ) → length s ≤ i → v ≤ 4294967295 → scan v (drop i s) ≡ Value v
+pub scan-end : (s : List ℕ) (i v : ℕ) → length s ≤ i → v ≤ 4294967295 → scan v (drop i s) ≡ Some v
 unfolding scan
 scan-end s i v e le = rw drop_of_length-le (simp (le-leb _ _ le))
 
-pub scan-end-over : (s : List ℕ) (i v : ℕ) → length s ≤ i → 4294967295 < v → scan v (drop i s) ≡ Bad
+pub scan-end-over : (s : List ℕ) (i v : ℕ) → length s ≤ i → 4294967295 < v → scan v (drop i s) ≡ None
 unfolding scan
 scan-end-over s i v e over = rw drop_of_length-le (simp (lt-leb _ _ over))
 
 -- a numeral of one digit, or of several with no leading zero, is its scan
-pub led_empty : (s : List ℕ) → length s ≡ 0 → numeral s ≡ Bad
+pub led_empty : (s : List ℕ) → length s ≡ 0 → numeral s ≡ None
 unfolding numeral
 led_empty [] e = refl
 led_empty (b ∷ s) e = absurd (omega arith)
 
-pub led_zero : (s : List ℕ) → get_or s 0 0 ≡ 48 → 1 < length s → numeral s ≡ Bad
+pub led_zero : (s : List ℕ) → get_or s 0 0 ≡ 48 → 1 < length s → numeral s ≡ None
 unfolding numeral
 led_zero [] e h = refl
 led_zero (b ∷ []) e h = absurd (omega arith)
@@ -93,13 +109,13 @@ led_more (b ∷ []) n h = refl
 led_more (b ∷ (d ∷ s)) n h = simp (ne_eqb _ _ h)
 
 -- more than ten digits have a leading zero or are over the largest
-pub led_long : (s : List ℕ) → 10 < length s → numeral s ≡ Bad
+pub led_long : (s : List ℕ) → 10 < length s → numeral s ≡ None
 unfolding numeral scan
 led_long [] h = refl
 led_long (b ∷ []) h = absurd (omega arith)
 led_long (b ∷ (d ∷ s)) h = go (eqb b 48) (leb 48 b) refl refl
   where
-    go : (x y : Bool) → eqb b 48 ≡ x → leb 48 b ≡ y → numeral (b ∷ (d ∷ s)) ≡ Bad
+    go : (x y : Bool) → eqb b 48 ≡ x → leb 48 b ≡ y → numeral (b ∷ (d ∷ s)) ≡ None
     go true y e f = simp e
     go false false e f = simp (e, f)
     go false true e f =

@@ -12,7 +12,7 @@ use lib.Dec.{eqb, leb}
 use borrow.Author.Tests.{eqb-true, eqb-false, leb-true, le-leb, ne_eqb}
 use Rattle.columns.specs.Number.{after_spaces, is_digit, all_digits, decimal, well_led, scan, numeral, field_at}
 use Rattle.columns.specs.Spell.{last_byte, left_byte, left, spell}
-use Rattle.columns.specs.declared.Field.TheVariants.{Value, Bad}
+use Rattle.std.specs.Prelude.{Some, None}
 use Rattle.columns.proofs.Both.{both, pair}
 use Rattle.columns.proofs.Padded.{bad_not, spaces, padded}
 
@@ -134,18 +134,18 @@ left_digits (suc w) v h = go (eqb v 0) refl (left_digits w (v / 10) (omega (arit
         }
 
 -- a spelling is read as its number
-numeral_of : (d : List ℕ) (v : ℕ) → well_led d ≡ true → all_digits d ≡ true → decimal 0 d ≡ v → v ≤ 4294967295 → numeral d ≡ Value v
+numeral_of : (d : List ℕ) (v : ℕ) → well_led d ≡ true → all_digits d ≡ true → decimal 0 d ≡ v → v ≤ 4294967295 → numeral d ≡ Some v
 unfolding numeral scan
 numeral_of d v a b c h = rw (a, b, c) (simp (le-leb v 4294967295 h))
 
-pub spell-read : (w v : ℕ) (rest : List ℕ) → 1 ≤ w → v < 10 ^ w → v ≤ 4294967295 → field_at (spell w v ++ rest) w ≡ Value v
+pub spell-read : (w v : ℕ) (rest : List ℕ) → 1 ≤ w → v < 10 ^ w → v ≤ 4294967295 → field_at (spell w v ++ rest) w ≡ Some v
 unfolding spell last_byte
 spell-read zero v rest l h k = absurd (omega arith)
 spell-read (suc w) v rest l h k =
     let S = left_digits w (v / 10) (omega (arith, pow-suc 10 w)) in
     let r = digits_read S.digits in
     let d = S.d ++ ((48 + v % 10) ∷ []) in
-    let n : numeral d ≡ Value v =
+    let n : numeral d ≡ Some v =
     numeral_of d v (led_lead S.d (48 + v % 10) r.2) (digits_more S.d (48 + v % 10) r.0 (digit_is (v % 10) (omega arith)))
     (omega (arith, decimal-more 0 S.d (48 + v % 10), r.1)) k in
     let e : (left w (v / 10) ++ ((48 + v % 10) ∷ [])) ++ rest ≡ spaces S.m ++ (d ++ rest) =
@@ -205,11 +205,11 @@ record Numeral (l : List ℕ) (v : ℕ) : Type 0 where
   digits : all_digits l ≡ true
   value : decimal 0 l ≡ v
 
-numeral-is : (l : List ℕ) (v : ℕ) → numeral l ≡ Value v → Numeral l v
+numeral-is : (l : List ℕ) (v : ℕ) → numeral l ≡ Some v → Numeral l v
 unfolding numeral scan
 numeral-is l v e = go (well_led l) (all_digits l) (leb (decimal 0 l) 4294967295) refl refl e
   where
-    go : (a b c : Bool) → well_led l ≡ a → all_digits l ≡ b → cond a (cond (b && c) (Value (decimal 0 l)) Bad) Bad ≡ Value v → Numeral l v
+    go : (a b c : Bool) → well_led l ≡ a → all_digits l ≡ b → cond a (cond (b && c) (Some (decimal 0 l)) None) None ≡ Some v → Numeral l v
     go true true true x y e = record { led = x; digits = y; value = cc }
     go true true false x y e = absurd (bad_not v e)
     go true false c x y e = absurd (bad_not v e)
@@ -235,11 +235,11 @@ spelt_only m v (x ∷ k) N =
     ∙ sym (ap (λ (j : ℕ). spell j v) n ∙ ap₂ (λ (l : List ℕ) (b : ℕ). l ++ (b ∷ [])) (ap (left (m + length L.d)) q ∙ s) r)
 
 -- what is read as v has v's spelling
-pub only_spelling : (s : List ℕ) (w v : ℕ) → field_at s w ≡ Value v → (w ≤ length s) × (take w s ≡ spell w v)
+pub only_spelling : (s : List ℕ) (w v : ℕ) → field_at s w ≡ Some v → (w ≤ length s) × (take w s ≡ spell w v)
 unfolding field_at
 only_spelling s w v e = go (leb w (length s)) refl e
   where
-    go : (b : Bool) → leb w (length s) ≡ b → cond b (numeral (after_spaces (take w s))) Bad ≡ Value v → (w ≤ length s) × (take w s ≡ spell w v)
+    go : (b : Bool) → leb w (length s) ≡ b → cond b (numeral (after_spaces (take w s))) None ≡ Some v → (w ≤ length s) × (take w s ≡ spell w v)
     go true x e =
         let h = leb-true w (length s) x in
         let S = split (take w s) in
@@ -250,5 +250,5 @@ only_spelling s w v e = go (leb w (length s)) refl e
     go false x e = absurd (bad_not v e)
 
 -- two fields that are read as one number are equal
-pub one_spelling : (s t : List ℕ) (w v : ℕ) → field_at s w ≡ Value v → field_at t w ≡ Value v → take w s ≡ take w t
+pub one_spelling : (s t : List ℕ) (w v : ℕ) → field_at s w ≡ Some v → field_at t w ≡ Some v → take w s ≡ take w t
 one_spelling s t w v e f = (only_spelling s w v e).1 ∙ sym (only_spelling t w v f).1

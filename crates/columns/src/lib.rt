@@ -17,78 +17,47 @@ const LARGEST: u64 = 4294967295;
 
 const MOST_DIGITS: usize = 10;
 
-// What a field holds: a number, or bytes that are not well formed.
-#[derive(Drop)]
-pub enum Field {
-    Value(u32),
-    Bad,
-}
-
-// Whether a number was written into a field.
-#[derive(Drop)]
-pub enum Entry {
-    Written,
-    Refused,
-}
+// A number was not written: it has more digits than columns, or its field is not wholly in the buffer.
+#[derive(Clone, Copy, Debug, PartialEq, Eq)]
+pub struct Misfit;
 
 // The index of the first byte that is no space, or the length.
 fn spaces(s: &[u8]) -> usize
     ensures { (result ≤ length s.now) × (drop result s.now ≡ after_spaces s.now) }
 {
-    let mut i: usize = 0;
-    while i < s.len() {
-        if s[i] != SPACE {
-            return i;
-        }
-        i += 1;
-    }
-    i
+    s.iter().position(|b| *b != SPACE).unwrap_or(s.len())
 }
 
-// The whole of s as a numeral. As many digits as LARGEST's fit 64 bits, and it is asked about at the end; fewer are below it, and more
-// have a leading zero or are over it.
-fn digits(s: &[u8]) -> Field
+// The whole of s as a numeral; none where the bytes are not well formed. As many digits as LARGEST's fit 64 bits, and it is asked about at the end; more have a leading zero or are
+// over it.
+fn digits(s: &[u8]) -> Option<u32>
     ensures { result ≡ numeral s.now }
 {
-    if s.len() == 0 {
-        return Field::Bad;
+    if s.is_empty() || MOST_DIGITS < s.len() {
+        return None;
     }
-    if MOST_DIGITS < s.len() {
-        return Field::Bad;
-    }
-    if s[0] == ZERO {
-        if 1 < s.len() {
-            return Field::Bad;
-        }
+    if 1 < s.len() && s[0] == ZERO {
+        return None;
     }
     let mut v: u64 = 0;
-    let mut i: usize = 0;
-    while i < s.len() {
-        let b = s[i];
-        if b < ZERO {
-            return Field::Bad;
+    for b in s {
+        if *b < ZERO || NINE < *b {
+            return None;
         }
-        if NINE < b {
-            return Field::Bad;
-        }
-        v = v * 10 + (b as u64 - ZERO as u64);
-        i += 1;
-    }
-    if s.len() < MOST_DIGITS {
-        return Field::Value(v as u32);
+        v = v * 10 + u64::from(*b - ZERO);
     }
     if LARGEST < v {
-        return Field::Bad;
+        return None;
     }
-    Field::Value(v as u32)
+    Some(v as u32)
 }
 
-// The number in the first `width` bytes of s; what stands after them is not looked at.
-pub fn number(s: &[u8], width: usize) -> Field
+// The number in the first `width` bytes of s, where they are well formed; what stands after them is not looked at.
+pub fn number(s: &[u8], width: usize) -> Option<u32>
     ensures { result ≡ field_at s.now width }
 {
     if s.len() < width {
-        return Field::Bad;
+        return None;
     }
     let field = &s[..width];
     let at = spaces(field);
@@ -106,29 +75,14 @@ fn last_byte(v: u32) -> u8
 fn left_byte(v: u32) -> u8
     ensures { result ≡ left_byte v }
 {
-    if v == 0 {
-        return SPACE;
-    }
-    last_byte(v)
+    if v == 0 { SPACE } else { last_byte(v) }
 }
 
-// Whether v has a spelling in `width` columns.
+// Whether v has a spelling in `width` columns: every number has one in as many as LARGEST's.
 fn fits_in(width: usize, v: u32) -> bool
     ensures { result ≡ fits_in width v }
 {
-    if width == 0 {
-        return false;
-    }
-    let mut columns = width;
-    let mut rest = v;
-    while 0 < columns {
-        if rest == 0 {
-            return true;
-        }
-        rest = rest / 10;
-        columns -= 1;
-    }
-    rest == 0
+    0 < width && (MOST_DIGITS <= width || u64::from(v) < 10u64.pow(width as u32))
 }
 
 // Writes v into the field of `width` columns from index `at` on, from its last column to its first. v has a spelling in so many columns, and
@@ -137,31 +91,24 @@ pub fn write_number(buf: &mut [u8], at: usize, width: usize, v: u32)
     requires { (fits_in width v ≡ true) × (at + width ≤ length buf.old) }
     ensures { buf.new ≡ take at buf.old ++ (spell width v ++ drop (at + width) buf.old) }
 {
-    let mut i = width - 1;
-    buf[at + i] = last_byte(v);
+    let last = width - 1;
+    buf[at + last] = last_byte(v);
     let mut rest = v / 10;
-    while 0 < i {
-        i -= 1;
+    for i in (0..last).rev() {
         buf[at + i] = left_byte(rest);
-        rest = rest / 10;
+        rest /= 10;
     }
 }
 
 // Writes v into the field of `width` columns from index `at` on. Refused, and every byte as it was, where v has more digits than columns
 // or the field is not wholly in the buffer.
-pub fn write_field(buf: &mut [u8], at: usize, width: usize, v: u32) -> Entry
+pub fn write_field(buf: &mut [u8], at: usize, width: usize, v: u32) -> Result<(), Misfit>
     ensures answer { result ≡ entry_of (length buf.old) at width v }
     ensures memory { buf.new ≡ entered at width v buf.old }
 {
-    if !fits_in(width, v) {
-        return Entry::Refused;
-    }
-    if buf.len() < width {
-        return Entry::Refused;
-    }
-    if buf.len() - width < at {
-        return Entry::Refused;
+    if !fits_in(width, v) || buf.len() < width || buf.len() - width < at {
+        return Err(Misfit);
     }
     write_number(buf, at, width, v);
-    Entry::Written
+    Ok(())
 }

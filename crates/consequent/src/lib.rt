@@ -3,7 +3,7 @@
 
 ghost use Rattle.std.specs.Prelude.{◌≡◌, not, cond, ℕ, ◌≤◌, ◌<◌, length, set, replicate, eqb};
 ghost use Rattle.scenario.specs.Reading.{point_numbers};
-ghost use Rattle.run.specs.Held.{Held, run_held};
+ghost use Rattle.run.specs.Held.{run_held};
 ghost use Rattle.row.specs.Memory.{section_at, row_at, tags_of};
 ghost use Rattle.consequent.specs.Walk.{advance_in, is_some, or_keep, faults_in, Kept};
 ghost use Rattle.sheet.specs.Held.{SheetHeld};
@@ -22,46 +22,40 @@ fn put(positions: &mut [u32], p: u32, x: u32) -> bool
 
 // Row j, and one row further: its point is placed, or its test is passed; or it cannot be met, and the positions stay.
 pub fn advance(
-    run: &[u64; run::ROOM],
+    run: &run::Run,
     positions: &mut [u32; pattern::POINT_NUMBERS],
     rows: &[u32; pattern::ROWS_ROOM],
     j: u32,
 ) -> bool
-    requires { Held run.now × (j < 200) }
-    ensures met { result ≡ is_some (advance_in (run_held run.now) positions.old (row_at rows.now j)) }
-    ensures placed { positions.new ≡ or_keep positions.old (advance_in (run_held run.now) positions.old (row_at rows.now j)) }
+    requires { j < 200 }
+    ensures met { result ≡ is_some (advance_in (run_held run.now.words) positions.old (row_at rows.now j)) }
+    ensures placed { positions.new ≡ or_keep positions.old (advance_in (run_held run.now.words) positions.old (row_at rows.now j)) }
 {
     let row = pattern::row_at(rows, j);
-    let kind = row.kind;
-    let set = row.set;
     let y = pattern::at(positions, row.q);
-    if kind == 1 {
-        return false;
+    match row.kind {
+        1 => false,
+        2 => put(positions, row.p, maps::first_after(run, row.set, y)),
+        3 => put(positions, row.p, maps::last_before(run, row.set, y)),
+        4 => {
+            let x = y.min(pattern::at(positions, row.a));
+            row::store(positions, row.p as usize, x);
+            true
+        }
+        5 => {
+            let x = y.max(pattern::at(positions, row.a));
+            row::store(positions, row.p as usize, x);
+            true
+        }
+        _ => pattern::meets(run, positions, rows, j),
     }
-    if kind == 2 {
-        return put(positions, row.p, maps::first_after(run, set, y));
-    }
-    if kind == 3 {
-        return put(positions, row.p, maps::last_before(run, set, y));
-    }
-    if kind == 4 {
-        let x = run::lower(y, pattern::at(positions, row.a));
-        row::store(positions, row.p as usize, x);
-        return true;
-    }
-    if kind == 5 {
-        let x = run::higher(y, pattern::at(positions, row.a));
-        row::store(positions, row.p as usize, x);
-        return true;
-    }
-    pattern::meets(run, positions, rows, j)
 }
 
 // For each consequent the first row that cannot be met, over these positions, to `faults`, in which there are zeros, and 0; or the first consequent, from 1, all of whose rows can be
 // met. The rows place their consequent's points among the positions: no other consequent uses them. The consequents' rows are those from `first` on, one consequent's after another's, so
 // that each is looked for behind where the one before it was left.
 pub fn at_fault(
-    run: &[u64; run::ROOM],
+    run: &run::Run,
     rows: &[u32; pattern::ROWS_ROOM],
     first: u32,
     count: u32,
@@ -69,14 +63,14 @@ pub fn at_fault(
     positions: &mut [u32; pattern::POINT_NUMBERS],
     faults: &mut [u32; 6],
 ) -> u32
-    requires { Held run.now × SheetHeld rows.now count k × (length positions.old ≡ point_numbers) × (faults.old ≡ replicate 6 0) × (first ≤ count) × ((i : ℕ) → i < first → section_at rows.now i ≡ 0) }
-    ensures met { result ≡ (faults_in (run_held run.now) (tags_of rows.now count) positions.old 0 k (replicate 6 0)).met }
-    ensures rows { result ≡ 0 → faults.new ≡ (faults_in (run_held run.now) (tags_of rows.now count) positions.old 0 k (replicate 6 0)).rows }
+    requires { SheetHeld rows.now count k × (length positions.old ≡ point_numbers) × (faults.old ≡ replicate 6 0) × (first ≤ count) × ((i : ℕ) → i < first → section_at rows.now i ≡ 0) }
+    ensures met { result ≡ (faults_in (run_held run.now.words) (tags_of rows.now count) positions.old 0 k (replicate 6 0)).met }
+    ensures rows { result ≡ 0 → faults.new ≡ (faults_in (run_held run.now.words) (tags_of rows.now count) positions.old 0 k (replicate 6 0)).rows }
     ensures kept { Kept (tags_of rows.now count) positions.old positions.new }
 {
-    let mut c: u32 = 0;
     let mut j = first;
-    'consequents: while c < k {
+    'consequents: for c in 0..k {
+        // A `loop`: it is broken with the row at fault, and the next consequent goes on from where it was left.
         let row = 'rows: loop {
             if count <= j {
                 break 'rows 0;
@@ -93,9 +87,7 @@ pub fn at_fault(
         if row == 0 {
             return c + 1;
         }
-        let i = c as usize;
-        faults[i] = row;
-        c += 1;
+        faults[c as usize] = row;
     }
     0
 }

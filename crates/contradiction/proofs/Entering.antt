@@ -11,21 +11,27 @@ use Rattle.scenario.specs.Rows.{Row, gather}
 use Rattle.scenario.specs.Fields.{decode}
 use Rattle.scenario.specs.Reading.{All}
 use Rattle.row.specs.Memory.{row_at, listed, rows_of}
-use Rattle.links.specs.Table.{told, Tells, entered, leads_on, placed}
+use Rattle.links.specs.Table.{most_places, told, Tells, entered, leads_on, placed}
 use Rattle.links.proofs.Entering.{links_entered, leads_on_append}
 use Rattle.contradiction.specs.Table.{places, place, link_if, links_of, upward, downward}
 use Rattle.contradiction.proofs.Parts.{linked}
-use Rattle.contradiction.proofs.Places.{place-low, links_low}
+use Rattle.contradiction.proofs.Places.{place-low, is-low, links_low}
 
--- a wanted link, and one that is not
-module _ (table table' : List ℕ) (size : length table ≡ places) (from to : ℕ) where
-  pub wanted-entered : (wanted : Bool) → wanted ≡ true → Tells (length table) table' (entered table from to) → Tells places table' (leads_on (told table) (link_if wanted from to))
-  unfolding leads_on
-  wanted-entered wanted e t = rw e (subst (λ (n : ℕ). Tells n table' (entered table from to)) size t)
+-- a link between two places may be entered; entered, and not
+module _ (table : List ℕ) (size : length table ≡ places) where
+  pub may_enter : (x y x' y' : ℕ) → x' ≡ place x → y' ≡ place y → (length table ≤ most_places) × (x' < length table) × (y' < length table)
+  may_enter x y x' y' e f =
+      let l = is-low x' x e in
+      let m = is-low y' y f in
+      (omega arith, omega arith, omega arith)
 
-  pub unwanted_left : (wanted : Bool) → wanted ≡ false → Tells places table (leads_on (told table) (link_if wanted from to))
+  pub link-entered : (table' : List ℕ) (from to : ℕ) → Tells (length table) table' (entered table from to) → Tells places table' (leads_on (told table) (link_if true from to))
   unfolding leads_on
-  unwanted_left wanted e = rw e (record { size = size; tells = λ x y a b. refl })
+  link-entered table' from to t = subst (λ (n : ℕ). Tells n table' (entered table from to)) size t
+
+  pub none_entered : Tells places table (leads_on (told table) [])
+  unfolding leads_on
+  none_entered = record { size = size; tells = λ x y a b. refl }
 
 -- links between places, of links between points
 placed_both : (p q : ℕ) (u d : Bool) → link_if u (place p) (place q) ++ link_if d (place q) (place p) ≡ map (placed place) (link_if u p q ++ link_if d q p)

@@ -1,12 +1,13 @@
 -- What a row says for the three rules, by its kind. Carried by `any-kind`: with the kind a numeral, the table computes.
 -- Assumes nothing.
 use mathlib.Core.Path.{◌≡◌, refl, sym, ap₂}
+use mathlib.Core.Logic.{◌⊎◌, inl, inr}
 use mathlib.Core.Bool.{Bool, true, false, ◌||◌, cond}
 use mathlib.Core.List.{[], ◌∷◌, ◌++◌}
-use Prim.Native.Nat.{ℕ, suc, ◌≤◌, ◌<◌}
+use Prim.Native.Nat.{ℕ, zero, suc, ◌≤◌, ◌<◌}
 use native.Mathlib.Omega.{arith}
 use lib.Dec.{ltb, leb, eqb}
-use borrow.Author.Tests.{eqb-true, ne_eqb, lt-ltb}
+use borrow.Author.Tests.{eqb-true, ne_eqb, lt-ltb, le-ltb, le-leb}
 use Rattle.scenario.specs.Links.{link}
 use Rattle.scenario.specs.Fields.{decode}
 use Rattle.scenario.proofs.Numbers.{any-kind}
@@ -64,3 +65,26 @@ one_way k e = go (eqb k 6) refl (eqb k 3) refl e
     go true f y g h = ne_eqb k 2 (λ z. let w = eqb-true k 6 f in omega arith)
     go false f true g h = ne_eqb k 2 (λ z. let w = eqb-true k 3 g in omega arith)
     go false f false g h = let z : ◌≡◌ {A = ℕ} 0 1 = cc in absurd (omega arith)
+
+-- by the kinds that it has
+pub rises : (k : ℕ) → (k ≡ 3) ⊎ (k ≡ 6) → upward false k ≡ true
+unfolding upward
+rises k (inl e) = rw e refl
+rises k (inr e) = rw e refl
+
+pub falls : (k : ℕ) → k ≡ 2 → (upward false k ≡ false) × (downward false k ≡ true)
+unfolding upward downward
+falls k e = rw e (refl, refl)
+
+pub stays : (k : ℕ) → (k ≡ 3 → ⊥) → (k ≡ 6 → ⊥) → (k ≡ 2 → ⊥) → (upward false k ≡ false) × (downward false k ≡ false)
+unfolding upward downward
+stays k l b n = (simp (ne_eqb k 6 b, ne_eqb k 3 l), ne_eqb k 2 n)
+
+pub asks : (k : ℕ) → 1 ≤ k → k ≤ 3 → true ≡ asking k
+unfolding asking
+asks k l h = simp (ne_eqb k 12 (λ e. omega arith), le-ltb 3 k h, le-leb 1 k l)
+
+pub asks_not : (k : ℕ) → (k ≡ 12 → ⊥) → (1 ≤ k → 3 < k) → false ≡ asking k
+unfolding asking
+asks_not zero n h = refl
+asks_not (suc k) n h = let l : 3 < suc k = h (omega arith) in simp (ne_eqb (suc k) 12 n, lt-ltb 3 (suc k) l)

@@ -173,16 +173,16 @@ copy_short m s (suc left) i = go (eqb (line_in m i).section s) (copy_short m s l
     go false h = omega arith
 
 -- The loop over the sections
-module _ (m : List ℕ) (n s k : ℕ) (h : s < k) where
+module _ (m : List ℕ) (n s k : ℕ) (h : s ≤ k) where
   abbrev ls : List Line
   ls = lines_in m 0 n
 
   abbrev after : ℕ
-  after = product (s + 1 + 1) (k - (s + 1)) ls
+  after = product (s + 1) (k + 1 - (s + 1)) ls
 
-  product_is : product (s + 1) (k - s) ls ≡ weighed (s + 1) ls * after
+  product_is : product s (k + 1 - s) ls ≡ weighed s ls * after
   unfolding product
-  product_is = let e : k - s ≡ suc (k - (s + 1)) = omega arith in rw (e, add-one (s + 1))
+  product_is = let e : k + 1 - s ≡ suc (k + 1 - (s + 1)) = omega arith in rw (e, add-one s)
 
   factor : (a b : ℕ) → 1 ≤ a * b → 1 ≤ a
   factor zero b h = omega arith
@@ -192,34 +192,34 @@ module _ (m : List ℕ) (n s k : ℕ) (h : s < k) where
   factor' a zero h = omega arith
   factor' a (suc b) h = omega arith
 
-  module _ (t w : ℕ) (e : t ≡ product (s + 1) (k - s) ls) (f : w ≡ weighed (s + 1) ls) (p : 1 ≤ t) where
-    much : 1 ≤ weighed (s + 1) ls * after
+  module _ (t w : ℕ) (e : t ≡ product s (k + 1 - s) ls) (f : w ≡ weighed s ls) (p : 1 ≤ t) where
+    much : 1 ≤ weighed s ls * after
     much = subst (λ (x : ℕ). 1 ≤ x) (e ∙ product_is) p
 
     pub weighs : 1 ≤ w
-    weighs = subst (λ (x : ℕ). 1 ≤ x) (sym f) (factor (weighed (s + 1) ls) after much)
+    weighs = subst (λ (x : ℕ). 1 ≤ x) (sym f) (factor (weighed s ls) after much)
 
     pub total-step : t / w ≡ after
-    total-step = ap₂ ◌/◌ (e ∙ product_is) f ∙ mul-div_cancel_left after (factor (weighed (s + 1) ls) after much)
+    total-step = ap₂ ◌/◌ (e ∙ product_is) f ∙ mul-div_cancel_left after (factor (weighed s ls) after much)
 
     pub total-low : 1 ≤ t / w
-    total-low = subst (λ (x : ℕ). 1 ≤ x) (sym total-step) (factor' (weighed (s + 1) ls) after much)
+    total-low = subst (λ (x : ℕ). 1 ≤ x) (sym total-step) (factor' (weighed s ls) after much)
 
-  chosen_is : (j : ℕ) → chosen_from m n (s + 1) (k - s) j ≡ denial_from m n (s + 1) 0 n (j / after) ++ chosen_from m n (s + 1 + 1) (k - (s + 1)) (j % after)
+  chosen_is : (j : ℕ) → chosen_from m n s (k + 1 - s) j ≡ denial_from m n s 0 n (j / after) ++ chosen_from m n (s + 1) (k + 1 - (s + 1)) (j % after)
   unfolding chosen_from
-  chosen_is j = let e : k - s ≡ suc (k - (s + 1)) = omega arith in rw (e, add-one (s + 1))
+  chosen_is j = let e : k + 1 - s ≡ suc (k + 1 - (s + 1)) = omega arith in rw (e, add-one s)
 
-  pub section-done : (j t at at' : ℕ) (out out' : List ℕ) → t ≡ after → at' ≡ at + length (denial_from m n (s + 1) 0 n (j / t)) → out' ≡ lay at (denial_from m n (s + 1) 0 n (j / t)) out
-      → (lay at' (chosen_from m n (s + 1 + 1) (k - (s + 1)) (j % t)) out' ≡ lay at (chosen_from m n (s + 1) (k - s) j) out)
-      × (at' + length (chosen_from m n (s + 1 + 1) (k - (s + 1)) (j % t)) ≡ at + length (chosen_from m n (s + 1) (k - s) j))
+  pub section-done : (j t at at' : ℕ) (out out' : List ℕ) → t ≡ after → at' ≡ at + length (denial_from m n s 0 n (j / t)) → out' ≡ lay at (denial_from m n s 0 n (j / t)) out
+      → (lay at' (chosen_from m n (s + 1) (k + 1 - (s + 1)) (j % t)) out' ≡ lay at (chosen_from m n s (k + 1 - s) j) out)
+      × (at' + length (chosen_from m n (s + 1) (k + 1 - (s + 1)) (j % t)) ≡ at + length (chosen_from m n s (k + 1 - s) j))
   section-done j t at at' out out' e a o = (
-    rw (chosen_is j, a, o, e) (sym (lay_append (denial_from m n (s + 1) 0 n (j / after)) (chosen_from m n (s + 1 + 1) (k - (s + 1)) (j % after)) at out)),
-    rw (chosen_is j, a, e) (omega (arith, length-append (denial_from m n (s + 1) 0 n (j / after)) (chosen_from m n (s + 1 + 1) (k - (s + 1)) (j % after)))),
+    rw (chosen_is j, a, o, e) (sym (lay_append (denial_from m n s 0 n (j / after)) (chosen_from m n (s + 1) (k + 1 - (s + 1)) (j % after)) at out)),
+    rw (chosen_is j, a, e) (omega (arith, length-append (denial_from m n s 0 n (j / after)) (chosen_from m n (s + 1) (k + 1 - (s + 1)) (j % after)))),
   )
 
-pub sections-end : (m : List ℕ) (n s k j : ℕ) → k ≤ s → chosen_from m n (s + 1) (k - s) j ≡ []
+pub sections-end : (m : List ℕ) (n s k j : ℕ) → k + 1 ≤ s → chosen_from m n s (k + 1 - s) j ≡ []
 unfolding chosen_from
-sections-end m n s k j h = let e : k - s ≡ 0 = omega arith in rw e
+sections-end m n s k j h = let e : k + 1 - s ≡ 0 = omega arith in rw e
 
 -- the rows of the whole
 pub built_memory : (m : List ℕ) (n k j at : ℕ) (out o : List ℕ) → at ≡ length (of_section 0 (lines_in m 0 n)) → o ≡ lay 0 (of_section 0 (lines_in m 0 n)) out

@@ -8,7 +8,7 @@ ghost use Rattle.row.specs.Row.{six};
 ghost use Rattle.row.specs.Memory.{lay, line_in, lines_in};
 ghost use Rattle.sheet.specs.Count.{weight, weigh_line, product};
 ghost use Rattle.introduction.specs.Bringing.{NoneBefore};
-ghost use Rattle.denial.specs.Build.{own, free_rows, inside_of, before_of, denied, denial_from, of_section, built};
+ghost use Rattle.denial.specs.Build.{own, free_rows, inside_of, denied, denial_from, of_section, built};
 
 // Half of a set, with all its events: both halves are taken from it where EVENT is denied.
 const FULL_HALF: u32 = 4294967295;
@@ -37,9 +37,10 @@ fn inside(section: u32, r: u32, e: u32, p: u32) -> row::Line
     ensures { result ≡ inside_of section r e p }
 {
     if e == 0 {
-        return before(section, r, p);
+        before(section, r, p)
+    } else {
+        before(section, p, r)
     }
-    before(section, p, r)
 }
 
 // The row that denies a row of a kind other than FREE, whose far end is given; v tells BEFORE's two denials apart. Accepted rows have no other kinds.
@@ -54,7 +55,8 @@ fn deny_line(line: row::Line, v: u64, far: u32) -> row::Line
     match kind {
         2 => row(s, 9, q, far, line.a, line.b),
         3 => row(s, 9, far, q, line.a, line.b),
-        6 => deny_before(s, p, q, v),
+        6 if v == 0 => before(s, q, p),
+        6 => row(s, 8, p, q, 0, 0),
         7 => row(s, 8, p, q, 0, 0),
         8 => row(s, 7, p, q, 0, 0),
         10 => row(s, 11, p, q, line.a, line.b),
@@ -62,16 +64,6 @@ fn deny_line(line: row::Line, v: u64, far: u32) -> row::Line
         12 => row(s, 12, p, 0, FULL_HALF - line.a, FULL_HALF - line.b),
         _ => row(s, 8, 0, 0, 0, 0),
     }
-}
-
-fn deny_before(s: u32, p: u32, q: u32, v: u64) -> row::Line
-    requires { v < 2 }
-    ensures { result ≡ before_of s p q v }
-{
-    if v == 0 {
-        return before(s, q, p);
-    }
-    row(s, 8, p, q, 0, 0)
 }
 
 // Stores the own rows of denial v of FREE; gives where they end.
@@ -85,25 +77,23 @@ fn deny_free(line: row::Line, v: u64, out: &mut [u32], at: usize) -> usize
     let q = line.q;
     let r = 10 * s + 9;
     row::put_line(out, at, row(s, 1, r, 0, line.a, line.b));
-    if sheet::is_edge(p) {
-        if sheet::is_edge(q) {
-            return at + 1;
+    match (sheet::is_edge(p), sheet::is_edge(q)) {
+        (true, true) => at + 1,
+        (true, false) => {
+            row::put_line(out, at + 1, inside(s, r, p, q));
+            at + 2
         }
-        row::put_line(out, at + 1, inside(s, r, p, q));
-        return at + 2;
+        (false, true) => {
+            row::put_line(out, at + 1, inside(s, r, q, p));
+            at + 2
+        }
+        (false, false) => {
+            let (lower, higher) = if v == 0 { (p, q) } else { (q, p) };
+            row::put_line(out, at + 1, before(s, lower, r));
+            row::put_line(out, at + 2, before(s, r, higher));
+            at + 3
+        }
     }
-    if sheet::is_edge(q) {
-        row::put_line(out, at + 1, inside(s, r, q, p));
-        return at + 2;
-    }
-    if v == 0 {
-        row::put_line(out, at + 1, before(s, p, r));
-        row::put_line(out, at + 2, before(s, r, q));
-        return at + 3;
-    }
-    row::put_line(out, at + 1, before(s, q, r));
-    row::put_line(out, at + 2, before(s, r, p));
-    at + 3
 }
 
 // Stores the own rows of denial v of a row, whose far end is given; gives where they end.
@@ -147,15 +137,13 @@ fn deny_section(rows: &[u32], n: usize, section: u32, j: u64, out: &mut [u32], a
     ensures memory { out.new ≡ lay at (denial_from rows.now n section 0 n j) out.old }
 {
     let from = introduction::first_of(rows, n, section);
-    let mut i = from;
     let mut left = j;
-    while i < n {
+    for i in from..n {
         let w = sheet::weigh_at(rows, i, section);
         if left < w {
             return deny_row(rows, n, from, i, left, out, at);
         }
         left -= w;
-        i += 1;
     }
     at
 }
@@ -166,16 +154,13 @@ fn copy_section(rows: &[u32], n: usize, section: u32, out: &mut [u32]) -> usize
     ensures ends { result ≡ length (of_section section (lines_in rows.now 0 n)) }
     ensures memory { out.new ≡ lay 0 (of_section section (lines_in rows.now 0 n)) out.old }
 {
-    let mut i: usize = 0;
-    let mut at: usize = 0;
-    while i < n {
+    let mut at = 0;
+    for i in 0..n {
         let line = row::line_at(rows, i);
-        i += 1;
-        if line.section != section {
-            continue;
+        if line.section == section {
+            row::put_line(out, at, line);
+            at += 1;
         }
-        row::put_line(out, at, line);
-        at += 1;
     }
     at
 }
@@ -189,14 +174,12 @@ pub fn build(rows: &[u32], n: usize, k: u32, count: u64, j: u64, out: &mut [u32]
     let mut denials = [0u64; sheet::SECTIONS];
     sheet::weigh_sections(rows, n, &mut denials);
     let mut at = copy_section(rows, n, 0, out);
-    let mut s: u32 = 0;
     let mut total = count;
     let mut left = j;
-    while s < k {
-        s += 1;
-        total = total / denials[s as usize];
+    for s in 1..=k {
+        total /= denials[s as usize];
         at = deny_section(rows, n, s, left / total, out, at);
-        left = left % total;
+        left %= total;
     }
     at
 }

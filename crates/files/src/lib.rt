@@ -1,7 +1,7 @@
 // Files for the programs: one that is named, or the one that an argument names, read whole into lent memory.
 #![tactic(auto)]
 
-ghost use Rattle.std.specs.Prelude.{◌≤◌, length, IfOk};
+ghost use Rattle.std.specs.Prelude.{◌≡◌, ◌≤◌, length, IfOk, IfSome, None};
 
 use std::env::{Env, FillError};
 use std::io::Read;
@@ -14,22 +14,6 @@ const EINVAL: i32 = 22;
 const ENAMETOOLONG: i32 = 36;
 
 const EILSEQ: i32 = 84;
-
-// A file that was read, and how many bytes it has; or one that cannot be read.
-#[derive(Drop)]
-pub struct Loaded {
-    pub read: bool,
-    pub size: usize,
-}
-
-fn unread() -> Loaded
-    ensures { result.size ≤ 0 }
-{
-    Loaded {
-        read: false,
-        size: 0,
-    }
-}
 
 // An error's words, without the system's number for them.
 fn words_of(text: &str) -> &str {
@@ -51,6 +35,7 @@ fn read_full(file: &mut impl Read, into: &mut [u8]) -> io::Result<usize>
     ensures { IfOk result (λ size. size ≤ length into.old) }
 {
     let mut size = 0;
+    // A `while`: a read gets as many bytes as it happens to get.
     while size < into.len() {
         let got = file.read(&mut into[size..])?;
         if got == 0 {
@@ -74,28 +59,24 @@ fn read_whole(file: &mut impl Read, into: &mut [u8]) -> io::Result<usize>
     Ok(size)
 }
 
-// What cannot be read, and that this was said on standard error, where it could be.
-fn refuse(rt: &(impl Eprint + Alloc), what: &str, error: io::Error) -> Loaded
-    ensures { result.size ≤ 0 }
+// Says on standard error, where it can be said, what cannot be read, and answers none.
+fn refuse(rt: &(impl Eprint + Alloc), what: &str, error: io::Error) -> Option<usize>
+    ensures { result ≡ None }
 {
-    match fail(rt, what, error) {
-        Ok(()) => unread(),
-        Err(_) => unread(),
-    }
+    let _ = fail(rt, what, error);
+    None
 }
 
-// Reads a file into lent memory, or says on standard error why it cannot.
-pub fn load<R: Files + Eprint + Alloc>(rt: &R, path: &[u8], into: &mut [u8]) -> Loaded
-    ensures { result.size ≤ length into.old }
+// Reads a file into lent memory, and answers how many bytes it has; or says on standard error why it cannot be read, and answers none.
+pub fn load<R: Files + Eprint + Alloc>(rt: &R, path: &[u8], into: &mut [u8]) -> Option<usize>
+    ensures { IfSome result (λ size. size ≤ length into.old) }
 {
     let Ok(name) = str::from_utf8(path) else {
-        let Ok(name) = String::from_utf8_lossy(rt.alloc(), path) else {
-            return unread();
-        };
+        let name = String::from_utf8_lossy(rt.alloc(), path).ok()?;
         return refuse(rt, name.as_str(), io::Error::from_raw_os_error(EILSEQ));
     };
     match read_named(rt, name, into) {
-        Ok(size) => Loaded { read: true, size },
+        Ok(size) => Some(size),
         Err(error) => refuse(rt, name, error),
     }
 }
@@ -107,9 +88,13 @@ fn read_named<R: Files>(rt: &R, name: &str, into: &mut [u8]) -> io::Result<usize
     read_whole(&mut file, into)
 }
 
-// The file that argument i names.
-pub fn load_argument<R: Files + Env + Eprint + Alloc>(rt: &R, i: usize, into: &mut [u8]) -> Loaded
-    ensures { result.size ≤ length into.old }
+// Likewise the file that argument i names.
+pub fn load_argument<R: Files + Env + Eprint + Alloc>(
+    rt: &R,
+    i: usize,
+    into: &mut [u8],
+) -> Option<usize>
+    ensures { IfSome result (λ size. size ≤ length into.old) }
 {
     let mut path = [0u8; 4096];
     match rt.arg(i, &mut path) {

@@ -1,15 +1,13 @@
 -- What a host is told of a check, by how it ends.
 -- Assumes nothing.
-use mathlib.Core.Path.{◌≡◌, sym, ◌∙◌, subst}
+use mathlib.Core.Path.{◌≡◌, ap, subst}
 use mathlib.Core.Bool.{true, false}
 use mathlib.Core.List.{List, ◌++◌}
-use Prim.Native.Nat.{ℕ, suc, ◌+◌, ◌<◌}
-use native.Mathlib.Numerals.{add-one}
-use native.Mathlib.Omega.{arith}
-use lib.ListN.{length, get_or, set, take, drop}
-use lib.Seq.{length-take-le, take-suc, append_snoc, drop-cons, set_at}
+use Prim.Native.Nat.{ℕ}
+use lib.ListN.{take, drop}
+use borrow.Rule.Slice.PartMut.{post_of}
 use borrow.Author.Tests.{eq-eqb, ne_eqb}
-use Rattle.verdict.specs.declared.Checked.{Checked}
+use Rattle.verdict.specs.Check.{Checked}
 use Rattle.findings.specs.Findings.{host_number, when_violated, fronted}
 
 -- The check's number
@@ -52,9 +50,7 @@ pub told_same : (c d : Checked) → c ≡ d → (number : ℕ) (positions positi
 told_same c d e number positions positions' points points' rows rows' consequents consequents' =
     subst (λ (z : Checked). Told z number positions positions' points points' rows rows' consequents consequents') e
 
--- One number more at the front
-pub copied-one : (from old : List ℕ) (i : ℕ) → i < length from → i < length old → (to : List ℕ) → to ≡ take i from ++ drop i old
-    → set to i (get_or from i 0) ≡ take (i + 1) from ++ drop (i + 1) old
-copied-one from old i h k to e =
-    rw (e, add-one i, take-suc from i 0 h, drop-cons old i 0 k)
-    (set_at (take i from) (get_or old i 0) (drop (suc i) old) (get_or from i 0) i (length-take-le i from (omega arith)) ∙ sym (append_snoc (take i from) (get_or from i 0) (drop (suc i) old)))
+-- numbers written over a front that has as many
+pub put-fronted : (n : ℕ) (values old written : List ℕ) → written ≡ take n values → written ++ post_of 0 n old ≡ fronted n values old
+unfolding fronted
+put-fronted n values old written e = ap (λ (l : List ℕ). l ++ drop n old) e

@@ -1,7 +1,7 @@
 -- What a host is told of a check: one number, and what its memory holds afterwards. What must be believed.
 -- Assumes nothing.
 use Rattle.std.specs.Prelude.{cond, List, ◌++◌, ℕ, take, drop, eqb}
-use Rattle.verdict.specs.declared.Checked.{Checked}
+use Rattle.verdict.specs.Check.{Checked}
 
 -- document 01: the refusal's, or else 0 for holds and 100 for violated
 unfoldable pub host_number : Checked → ℕ

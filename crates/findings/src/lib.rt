@@ -1,61 +1,42 @@
 // A check's answer for a host: its number, and its findings in the caller's memory.
 #![tactic(auto)]
 
-ghost use Rattle.std.specs.Prelude.{◌≡◌, false, ◌≤◌, length};
+ghost use Rattle.std.specs.Prelude.{◌≡◌, ◌≤◌};
+ghost use Rattle.verdict.specs.Numbered.{numbered};
 ghost use Rattle.findings.specs.Findings.{host_number, when_violated, fronted};
+
+use refusal::Refusal;
+use verdict::Violation;
 
 pub const VIOLATED: u32 = 100;
 
-// The first `count` numbers to the front of other numbers.
-fn copy_front(from: &[u32], count: usize, to: &mut [u32])
-    requires { (count ≤ length from.now) × (count ≤ length to.old) }
-    ensures { to.new ≡ fronted count from.now to.old }
-{
-    let mut i: usize = 0;
-    while i < count {
-        to[i] = from[i];
-        i += 1;
-    }
-}
-
-// All bytes of a line to the front of other bytes.
-pub fn copy_line(from: &[u8], to: &mut [u8])
-    requires { length from.now ≤ length to.old }
-    ensures { to.new ≡ fronted (length from.now) from.now to.old }
-{
-    let mut i: usize = 0;
-    while i < from.len() {
-        to[i] = from[i];
-        i += 1;
-    }
-}
-
 // The number of a check's answer; its findings, where it is violated, go to the caller's memory.
 pub fn tell(
-    c: verdict::Checked,
+    checked: Result<Option<Violation>, Refusal>,
     positions: &mut [u32; 4],
     points: &mut u32,
     rows: &mut [u32; 6],
     consequents: &mut u32,
 ) -> u32
-    requires { (c.points ≤ 4) × (c.consequents ≤ 6) × ((c.refusal ≡ 0 → ⊥) → c.violated ≡ false) }
-    ensures answer { result ≡ host_number c }
-    ensures positions { positions.new ≡ when_violated c (fronted c.points c.positions positions.old) positions.old }
-    ensures points { points.new ≡ when_violated c c.points points.old }
-    ensures rows { rows.new ≡ when_violated c (fronted c.consequents c.rows rows.old) rows.old }
-    ensures consequents { consequents.new ≡ when_violated c c.consequents consequents.old }
+    requires { ((numbered checked).points ≤ 4) × ((numbered checked).consequents ≤ 6) }
+    ensures answer { result ≡ host_number (numbered checked) }
+    ensures positions { positions.new ≡ when_violated (numbered checked) (fronted (numbered checked).points (numbered checked).positions positions.old) positions.old }
+    ensures points { points.new ≡ when_violated (numbered checked) (numbered checked).points points.old }
+    ensures rows { rows.new ≡ when_violated (numbered checked) (fronted (numbered checked).consequents (numbered checked).rows rows.old) rows.old }
+    ensures consequents { consequents.new ≡ when_violated (numbered checked) (numbered checked).consequents consequents.old }
 {
-    if c.refusal != 0 {
-        return c.refusal;
-    }
-    if !c.violated {
+    let verdict = match checked {
+        Ok(verdict) => verdict,
+        Err(refusal) => return refusal.number(),
+    };
+    let Some(violation) = verdict else {
         return 0;
-    }
-    let at = c.positions;
-    copy_front(&at, c.points as usize, positions);
-    let faults = c.rows;
-    copy_front(&faults, c.consequents as usize, rows);
-    *points = c.points;
-    *consequents = c.consequents;
+    };
+    let placed = violation.points as usize;
+    positions[..placed].copy_from_slice(&violation.positions[..placed]);
+    let faulty = violation.consequents as usize;
+    rows[..faulty].copy_from_slice(&violation.rows[..faulty]);
+    *points = violation.points;
+    *consequents = violation.consequents;
     VIOLATED
 }

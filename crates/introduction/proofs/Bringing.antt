@@ -8,6 +8,8 @@ use native.Mathlib.Omega.{arith}
 use lib.ListN.{length, length-append}
 use lib.Dec.{eqb}
 use borrow.Author.Tests.{ne_eqb, eqb-true, eqb-false}
+use Rattle.std.proofs.Common.{Option, Some, unwrap_or}
+use Rattle.std.specs.List.{find, range_with_len}
 use Rattle.row.specs.declared.Line.{Line}
 use Rattle.row.specs.Memory.{put, lay, section_at, line_in}
 use Rattle.introduction.specs.Bringing.{NoneBefore, uses, marked, wanted, brought}
@@ -21,6 +23,20 @@ module _ (m : List ℕ) (s : ℕ) where
       go : (b : Bool) → eqb k i ≡ b → ⊥
       go true t = n (subst (λ (j : ℕ). section_at m j ≡ s) (eqb-true k i t) e)
       go false t = let z = eqb-false k i t in f k (omega arith) e
+
+  -- the first row of the section, of those from number j on up to n; or else n
+  pub first-from : (j left n : ℕ) → j + left ≡ n → NoneBefore m s j
+      → (unwrap_or (find (λ i. eqb (section_at m i) s) (range_with_len j left)) n ≤ n) × NoneBefore m s (unwrap_or (find (λ i. eqb (section_at m i) s) (range_with_len j left)) n)
+  first-from j zero n p f = (omega arith, λ k h. f k (omega arith))
+  first-from j (suc left) n p f = go (eqb (section_at m j) s) refl (first-from (j + 1) left n (omega arith))
+    where
+      later : Option ℕ
+      later = find (λ i. eqb (section_at m i) s) (range_with_len (j + 1) left)
+
+      go : (b : Bool) → eqb (section_at m j) s ≡ b → (NoneBefore m s (j + 1) → (unwrap_or later n ≤ n) × NoneBefore m s (unwrap_or later n))
+          → (unwrap_or (cond b (Some j) later) n ≤ n) × NoneBefore m s (unwrap_or (cond b (Some j) later) n)
+      go true t g = (omega arith, f)
+      go false t g = g (none_more j f (eqb-false (section_at m j) s t))
 
   pub brought-none : (marks : List ℕ) (i : ℕ) → i ≡ 0 → brought m s marks i ≡ []
   unfolding brought

@@ -16,21 +16,18 @@ fn mark(marks: &mut [u32], p: u32)
 pub fn mark_uses(marks: &mut [u32], line: row::Line)
     ensures { marks.new ≡ marked marks.old (uses line) }
 {
-    if line.kind <= 1 {
-        return;
-    }
-    if line.kind <= 3 {
-        mark(marks, line.q);
-        return;
-    }
-    if line.kind <= 5 {
-        mark(marks, line.q);
-        mark(marks, line.a);
-        return;
-    }
-    mark(marks, line.p);
-    if line.kind <= 11 {
-        mark(marks, line.q);
+    match line.kind {
+        0..=1 => {}
+        2..=3 => mark(marks, line.q),
+        4..=5 => {
+            mark(marks, line.q);
+            mark(marks, line.a);
+        }
+        6..=11 => {
+            mark(marks, line.p);
+            mark(marks, line.q);
+        }
+        _ => mark(marks, line.p),
     }
 }
 
@@ -41,19 +38,11 @@ fn is_marked(marks: &[u32], p: u32) -> bool
 }
 
 // Whether a row is of the section and introduces a marked point.
+#[tactic(auto, unfolding(crate::specs::Bringing::wanted))]
 fn is_wanted(marks: &[u32], section: u32, line: row::Line) -> bool
     ensures { result ≡ wanted marks.now section line }
 {
-    if line.section != section {
-        return false;
-    }
-    if line.kind < 1 {
-        return false;
-    }
-    if 5 < line.kind {
-        return false;
-    }
-    is_marked(marks, line.p)
+    line.section == section && (1..=5).contains(&line.kind) && is_marked(marks, line.p)
 }
 
 // The number of the section's first row, from 0, or n where it has none.
@@ -61,14 +50,9 @@ pub fn first_of(rows: &[u32], n: usize, section: u32) -> usize
     requires { 6 * n ≤ length rows.now }
     ensures { (result ≤ n) × NoneBefore rows.now section result }
 {
-    let mut i: usize = 0;
-    while i < n {
-        if row::section_of(rows, i) == section {
-            return i;
-        }
-        i += 1;
-    }
-    n
+    (0..n)
+        .find(|i| row::section_of(rows, *i) == section)
+        .unwrap_or(n)
 }
 
 // How many of the first i rows there are up to the last of the section that introduces a marked point; 0 where there is none. The section
@@ -78,12 +62,10 @@ fn last_wanted(rows: &[u32], from: usize, i: usize, section: u32, marks: &[u32])
     ensures same { (result ≤ i) × (brought rows.now section marks.now result ≡ brought rows.now section marks.now i) }
     ensures last { 0 < result → wanted marks.now section (line_in rows.now (result - 1)) ≡ true }
 {
-    let mut left = i;
-    while from < left {
-        if is_wanted(marks, section, row::line_at(rows, left - 1)) {
-            return left;
+    for j in (from..i).rev() {
+        if is_wanted(marks, section, row::line_at(rows, j)) {
+            return j + 1;
         }
-        left -= 1;
     }
     0
 }
@@ -103,6 +85,7 @@ pub fn bring(
     ensures ends { result ≡ at + length (brought rows.now section marks.old i) }
     ensures memory { out.new ≡ lay at (brought rows.now section marks.old i) out.old }
 {
+    // A recursion: a row is stored behind those that its points need, and waits for them on the stack, as there is no heap.
     let left = last_wanted(rows, from, i, section, marks);
     if left == 0 {
         return at;

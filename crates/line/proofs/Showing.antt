@@ -4,29 +4,28 @@
 use mathlib.Core.Path.{◌≡◌, refl, sym, subst}
 use mathlib.Core.Bool.{Bool, true, false, not, cond, ◌&&◌}
 use mathlib.Core.List.{List}
-use Prim.Native.Nat.{ℕ, zero, suc, ◌+◌, ◌-◌, ◌*◌, ◌≤◌, ◌<◌, min}
+use Prim.Native.Nat.{ℕ, zero, suc, ◌+◌, ◌-◌, ◌*◌, ◌≤◌, min}
 use native.Mathlib.Nat.{mul-suc}
 use native.Mathlib.Omega.{arith}
 use lib.ListN.{length, take, drop, length-take}
 use lib.Dec.{eqb, leb, ltb}
-use borrow.Author.Tests.{eq-eqb, ne_eqb, eqb-true, eqb-false, le-leb, lt-leb, leb-true}
+use borrow.Author.Tests.{eq-eqb, ne_eqb, eqb-true, eqb-false, le-leb, leb-true}
 use Rattle.scenario.specs.Sheet.{count}
 use Rattle.row.specs.declared.Line.{Line as Row}
 use Rattle.rules.specs.declared.Stand.{Stand}
-use Rattle.sheet.specs.declared.Answer.{Answer as SheetAnswer}
-use Rattle.row.specs.declared.Parsed.{Parsed}
-use Rattle.row.specs.declared.Parsed.TheVariants.{Row as Parsed·row, Malformed}
+use Rattle.sheet.specs.Reading.{Answer as SheetAnswer}
+use Rattle.std.specs.Prelude.{Option, Some, None}
 use Rattle.rules.specs.Rules.{start, refusal}
 use Rattle.row.specs.Row.{line_of}
 use Rattle.sheet.specs.Reading as reading
 use Rattle.sheet.proofs.Memory.{head_good as sheet-head-good}
-use Rattle.runlog.specs.declared.Head.{Head as LogHead}
-use Rattle.runlog.specs.declared.Answer.{Answer as LogAnswer}
-use Rattle.runlog.specs.declared.LineRead.{LineRead}
-use Rattle.runlog.specs.declared.LineRead.TheVariants.{Refused, Line}
+use Rattle.runlog.specs.Log.{Head as LogHead}
+use Rattle.runlog.specs.Log.{Answer as LogAnswer}
+use Rattle.runlog.specs.Log.{LineRead}
+use Rattle.runlog.specs.Log.LineRead.{Refused, Line}
 use Rattle.runlog.specs.Log as log
 use Rattle.runlog.proofs.Whole.{first-seen as first-line-seen}
-use Rattle.line.specs.declared.Part.{Part}
+use Rattle.line.specs.Showing.{Part}
 use Rattle.line.specs.Showing.{part, line_part, sheet_part, log_part, part_of, shown_line, Inside, Stands}
 use Rattle.sheet.proofs.Bound.{sheet-head-low}
 use Rattle.runlog.proofs.Bound.{log-head-low}
@@ -46,10 +45,10 @@ names_rows k s (suc left) i at = go (line_of (reading.row_bytes s i)) (λ at. na
     pick true l r t f n = let h = f n in (omega (arith, h.0), omega (arith, h.1))
     pick false l r t f n = (omega arith, omega arith)
 
-    go : (p : Parsed) → ((at : Stand) → Names (suc (suc i)) (suc i + left) (reading.rows_from k s (suc i) left at))
+    go : (p : Option Row) → ((at : Stand) → Names (suc (suc i)) (suc i + left) (reading.rows_from k s (suc i) left at))
         → Names (suc i) (i + suc left) (reading.on_line p (reading.stop 4 (suc i)) (λ l. cond (eqb (refusal k at l) 0) (reading.more l (reading.rows_from k s (suc i) left (reading.after at l))) (reading.stop (refusal k at l) (suc i))))
-    go (Parsed·row l) f = pick (eqb (refusal k at l) 0) l (refusal k at l) (reading.rows_from k s (suc i) left (reading.after at l)) (f (reading.after at l))
-    go Malformed f = λ n. (omega arith, omega arith)
+    go (Some l) f = pick (eqb (refusal k at l) 0) l (refusal k at l) (reading.rows_from k s (suc i) left (reading.after at l)) (f (reading.after at l))
+    go None f = λ n. (omega arith, omega arith)
 
 -- 4 to 10 come from the rows
 pub record FromRow (t : reading.Taken) (a : SheetAnswer) : Type 0 where
@@ -123,13 +122,15 @@ line_stands l lo hi = go (eqb (log.head_of l).refusal 0) refl (from-line (log.he
 -- A part, by how the refusal lies to the rows' numbers
 
 module _ (log : Bool) (first wide low high : ℕ) (t : List ℕ) (refusal line : ℕ) where
-  pub part_low : refusal < low → part refusal log 0 (min first (length t)) ≡ line_part log first wide low high t refusal line
+  pub part_front : (low ≤ refusal → refusal ≤ high → ⊥) → part refusal log 0 (min first (length t)) ≡ line_part log first wide low high t refusal line
   unfolding line_part
-  part_low h = simp (lt-leb low refusal h)
-
-  pub part-high : low ≤ refusal → high < refusal → part refusal log 0 (min first (length t)) ≡ line_part log first wide low high t refusal line
-  unfolding line_part
-  part-high a h = simp (le-leb low refusal a, lt-leb refusal high h)
+  part_front h = go (leb low refusal) (leb refusal high) refl refl
+    where
+      go : (b c : Bool) → leb low refusal ≡ b → leb refusal high ≡ c
+          → part refusal log 0 (min first (length t)) ≡ cond (b && c) (part refusal log (first + wide * (line - 1)) (first + wide * (line - 1) + wide)) (part refusal log 0 (min first (length t)))
+      go true true x y = absurd (h (leb-true low refusal x) (leb-true refusal high y))
+      go true false x y = refl
+      go false c x y = refl
 
   pub part-line : low ≤ refusal → refusal ≤ high → part refusal log (first + wide * (line - 1)) (first + wide * (line - 1) + wide) ≡ line_part log first wide low high t refusal line
   unfolding line_part
@@ -139,14 +140,6 @@ module _ (log : Bool) (first wide low high : ℕ) (t : List ℕ) (refusal line :
 pub line-ends : (size first wide line : ℕ) → Stands size first wide line → first + wide * (line - 1) + wide ≤ size
 line-ends size first wide zero S = let low = S.low in absurd (omega arith)
 line-ends size first wide (suc k) S = let e : suc k - 1 ≡ k = omega arith in rw e (omega (arith, S.high, mul-suc wide k))
-
--- The first line's part
-module _ (log : Bool) (refusal most n : ℕ) where
-  pub front-all : n < most → part refusal log 0 n ≡ part refusal log 0 (min most n)
-  front-all h = let e : min most n ≡ n = omega arith in rw e
-
-  pub front-most : most ≤ n → part refusal log 0 most ≡ part refusal log 0 (min most n)
-  front-most h = let e : min most n ≡ most = omega arith in rw e
 
 -- The part of a sheet and a log, by how reading them ends; a and b are what the readers answer
 
@@ -204,12 +197,6 @@ module _ (s l : List ℕ) where
   pub shown_sheet : (x : Part) → x ≡ part_of s l → x.log ≡ false → take (x.to - x.from) (drop x.from s) ≡ shown_line s l
   unfolding shown_line
   shown_sheet x e t = rw (sym e, t)
-
-  pub end-log : (x : Part) → Inside s l x → x.log ≡ true → x.to ≤ length l
-  end-log x i t = subst (λ (b : Bool). x.to ≤ length (cond b l s)) t i.end
-
-  pub end-sheet : (x : Part) → Inside s l x → x.log ≡ false → x.to ≤ length s
-  end-sheet x i t = subst (λ (b : Bool). x.to ≤ length (cond b l s)) t i.end
 
   -- no row or line has more than 35 bytes, and no first line more than 28
   part-few : (x : Part) → x ≡ part_of s l → x.to ≤ x.from + 35

@@ -4,7 +4,13 @@ use Rattle.std.specs.Prelude.{Bool, true, false, not, cond, ◌&&◌, List, ℕ,
 use Rattle.scenario.specs.Log.{most_lines}
 use Rattle.sheet.specs.Reading.{answer as sheet-answer}
 use Rattle.runlog.specs.Log.{answer as log-answer}
-use Rattle.line.specs.declared.Part.{Part}
+
+-- The check's refusal, or 0, and the part that it is about: whether of the log or of the sheet, from where to where.
+pub record Part : Type 0 where
+  pub refusal : ℕ
+  pub log : Bool
+  pub from : ℕ
+  pub to : ℕ
 
 abbrev pub part : (refusal : ℕ) (log : Bool) (from to : ℕ) → Part
 part refusal log from to = record { refusal = refusal; log = log; from = from; to = to }

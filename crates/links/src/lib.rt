@@ -12,12 +12,10 @@ pub fn begin(table: &mut [u64])
     requires { length table.old ≤ most_places }
     ensures { Tells (length table.old) table.new eqb }
 {
-    let mut x: usize = 0;
     let mut alone: u64 = 1;
-    while x < table.len() {
-        table[x] = alone;
+    for set in table.iter_mut() {
+        *set = alone;
         alone *= 2;
-        x += 1;
     }
 }
 
@@ -27,9 +25,10 @@ fn onward(set: u64, from: u32, beyond: u64) -> u64
     ensures { Onward set from beyond result }
 {
     if run::member(set, from) {
-        return set | beyond;
+        set | beyond
+    } else {
+        set
     }
-    set
 }
 
 // Enters a link: what leads to its first place leads to all that its second leads to.
@@ -38,9 +37,7 @@ pub fn enter(table: &mut [u64], from: u32, to: u32)
     ensures { Tells (length table.old) table.new (entered table.old from to) }
 {
     let beyond = table[to as usize];
-    let mut x: usize = 0;
-    while x < table.len() {
-        table[x] = onward(table[x], from, beyond);
-        x += 1;
+    for set in table.iter_mut() {
+        *set = onward(*set, from, beyond);
     }
 }

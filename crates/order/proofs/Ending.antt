@@ -17,24 +17,6 @@ use Rattle.row.specs.declared.Line.{Line}
 use Rattle.order.specs.Leading.{places, place, links_in, Led}
 use Rattle.order.specs.Ending.{antecedent_points, may_end_in, InOrder, end_in, far_in}
 
-pub and-false : (a : Bool) → a && false ≡ false
-and-false true = refl
-and-false false = refl
-
--- one point
-module _ (beyond ordered q z : ℕ) where
-  pub is-q : z ≡ q → false ≡ may_end_in beyond ordered q z
-  unfolding may_end_in
-  is-q e = sym (ap (λ (b : Bool). in_set beyond z && not b && in_set ordered z) (eq-eqb z q e) ∙ ap (λ (b : Bool). b && in_set ordered z) (and-false (in_set beyond z)))
-
-  pub not_beyond : in_set beyond z ≡ false → false ≡ may_end_in beyond ordered q z
-  unfolding may_end_in
-  not_beyond e = sym (ap (λ (b : Bool). b && not (eqb z q) && in_set ordered z) e)
-
-  pub as_ordered : (z ≡ q → ⊥) → in_set beyond z ≡ true → in_set ordered z ≡ may_end_in beyond ordered q z
-  unfolding may_end_in
-  as_ordered n e = sym (ap₂ (λ (a b : Bool). a && not b && in_set ordered z) e (ne_eqb z q n))
-
 -- the points from z on
 module _ (long : ℕ) (f : ℕ → Bool) where
   abbrev pub first_from : ℕ → ℕ

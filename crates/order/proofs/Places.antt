@@ -2,7 +2,7 @@
 -- Assumes nothing.
 use mathlib.Core.Path.{◌≡◌, refl, sym, ap, ap₂, ◌∙◌, subst}
 use mathlib.Core.Logic.{◌⊎◌, inl, inr, ⊎_elim}
-use mathlib.Core.Bool.{Bool, true, false, not, ◌&&◌, ◌||◌, cond}
+use mathlib.Core.Bool.{Bool, true, false, not, ◌&&◌, ◌||◌, cond, and-false}
 use mathlib.Core.List.{List, [], ◌∷◌, ◌++◌, map}
 use Prim.Native.Nat.{ℕ, zero, suc, ◌+◌, ◌*◌, ◌%◌, ◌≤◌, ◌<◌}
 use native.Mathlib.Omega.{arith}
@@ -24,7 +24,7 @@ use Rattle.sheet.specs.Reading.{section}
 use Rattle.links.proofs.Places.{same_place, leads-placed}
 use Rattle.order.specs.Leading.{place, link_of, links_in}
 use Rattle.order.specs.Ending.{antecedent_points, end_in, far_in}
-use Rattle.order.proofs.Ending.{first_or-same, far_of_other, and-false}
+use Rattle.order.proofs.Ending.{first_or-same, far_of_other}
 
 -- Places
 

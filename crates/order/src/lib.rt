@@ -27,7 +27,8 @@ fn place(point: u32) -> u32
     10 + point % 10
 }
 
-// Enters the link of a row BEFORE: from p to q, or the other way.
+// Enters the link of a row BEFORE: from p to q, or the other way. `upward` is a bool, and no closure that picks the two points: the clauses of all
+// that hand it down are stated by it.
 fn enter_row(table: &mut [u64; PLACES], line: row::Line, upward: bool)
     requires { length table.old ≡ places }
     ensures { Tells places table.new (entered table.old (link_of upward line).from (link_of upward line).to) }
@@ -46,44 +47,32 @@ fn led_to(rows: &[u32], n: usize, section: u32, upward: bool, point: u32) -> u64
 {
     let mut table = [0u64; PLACES];
     links::begin(&mut table);
-    let mut i = n;
-    while 0 < i {
-        i -= 1;
-        if row::section_of(rows, i) != section {
-            continue;
+    for i in (0..n).rev() {
+        if row::section_of(rows, i) == section && row::kind_of(rows, i) == BEFORE {
+            enter_row(&mut table, row::line_at(rows, i), upward);
         }
-        if row::kind_of(rows, i) != BEFORE {
-            continue;
-        }
-        enter_row(&mut table, row::line_at(rows, i), upward);
     }
     table[place(point) as usize]
 }
 
 // Whether an antecedent point may be the far end: both sets have it, and it is not q.
+#[tactic(auto, unfolding(crate::specs::Ending::may_end_in))]
 fn may_end(beyond: u64, ordered: u64, q: u32, z: u32) -> bool
     requires { z < places }
     ensures { result ≡ may_end_in beyond ordered q z }
 {
-    if z == q {
-        return false;
-    }
-    if run::member(beyond, z) {
-        return run::member(ordered, z);
-    }
-    false
+    run::member(beyond, z) && z != q && run::member(ordered, z)
 }
 
 // "Of several z the lowest number is taken", or else the long end.
 fn lowest(beyond: u64, ordered: u64, q: u32, long: u32) -> u32
     ensures { result ≡ first_or long (may_end_in beyond ordered q) antecedent_points }
 {
-    let mut z: u32 = 1;
-    while z <= row::ANTECEDENT_POINTS {
+    // A `for`, and no `find`: std has a lemma on the numbers that a range `a..b` yields to one, and none on those of `a..=b`.
+    for z in 1..=row::ANTECEDENT_POINTS {
         if may_end(beyond, ordered, q, z) {
             return z;
         }
-        z += 1;
     }
     long
 }
@@ -114,12 +103,9 @@ pub fn far_end(rows: &[u32], n: usize, line: row::Line) -> u32
     requires { 6 * n ≤ length rows.now }
     ensures { result ≡ far_in rows.now n line }
 {
-    let kind = line.kind;
-    if kind == NEXT {
-        return end_of(rows, n, line, true, row::START, row::CLOSE);
+    match line.kind {
+        NEXT => end_of(rows, n, line, true, row::START, row::CLOSE),
+        LAST => end_of(rows, n, line, false, row::CLOSE, row::START),
+        _ => 0,
     }
-    if kind == LAST {
-        return end_of(rows, n, line, false, row::CLOSE, row::START);
-    }
-    0
 }

@@ -9,10 +9,10 @@ use lib.Dec.{eqb}
 use borrow.Author.Tests.{eq-eqb, ne_eqb, eqb-true}
 use Rattle.scenario.specs.Log.{run_of}
 use Rattle.row.specs.Memory.{lay as lay-rows}
-use Rattle.sheet.specs.declared.Answer.{Answer as SheetAnswer}
+use Rattle.sheet.specs.Reading.{Answer as SheetAnswer}
 use Rattle.sheet.specs.Reading.{taken as sheet-taken, answer as sheet-answer}
 use Rattle.sheet.proofs.Held.{sheet_is, sheet_loaded}
-use Rattle.runlog.specs.declared.Answer.{Answer as LogAnswer}
+use Rattle.runlog.specs.Log.{Answer as LogAnswer}
 use Rattle.runlog.specs.Log.{answer as log-answer}
 use Rattle.runlog.specs.Held.{Loaded}
 use Rattle.pair.specs.Pair.{refusal_of, PairHeld}

@@ -3,14 +3,15 @@
 use mathlib.Core.Path.{◌≡◌, refl, sym, ap, ap₂, ◌∙◌}
 use mathlib.Core.Bool.{Bool, true, false, ◌&&◌}
 use mathlib.Core.List.{List, [], ◌∷◌}
-use Prim.Native.Nat.{ℕ, suc, ◌+◌, ◌-◌, ◌≤◌, ◌<◌}
+use Rattle.std.specs.List.{list_all, range_with_len}
+use Prim.Native.Nat.{ℕ, zero, suc, ◌+◌, ◌≤◌}
 use native.Mathlib.Numerals.{add-one}
 use native.Mathlib.Omega.{arith}
-use lib.ListN.{length, get_or, set, take, drop, replicate, length-take, length-set, drop_of_length-le}
-use lib.Seq.{drop-cons, get_or-take, length-take-le}
+use lib.ListN.{length, get_or, set, take, replicate, length-take, length-set}
+use lib.Seq.{length-take-le}
 use lib.Dec.{T}
-use borrow.Author.Tests.{eq-eqb, le-leb, lt-leb}
-use Rattle.scenario.specs.Rows.{Row, Run, Env, meets, introduced, needs, points, elem}
+use borrow.Author.Tests.{eq-eqb}
+use Rattle.scenario.specs.Rows.{Row, Run, meets, introduced, needs, points, elem}
 use Rattle.scenario.specs.Sheet.{env, all, is_line, matching}
 use Rattle.scenario.specs.Reading.{All, Ordinary, Pattern}
 use Rattle.scenario.proofs.Base.{all_map, all-elem, elem_at, elem-front, elem_back}
@@ -19,51 +20,21 @@ use Rattle.scenario.proofs.Place.{env-map}
 use Rattle.run.specs.Words.{events_in, line_count}
 use Rattle.run.specs.Held.{Held, run_held}
 use Rattle.run.proofs.Logs.{part_length}
-use Rattle.row.specs.Memory.{row_at, listed}
+use Rattle.row.specs.Memory.{listed}
 use Rattle.pattern.specs.Placing.{puts, is_position, by}
 use Rattle.pattern.proofs.Placing.{puts_keep, puts-read}
 
--- Positions one after another
+-- A row's or a position's test, as std counts it and as `all` does
 
-module _ (n : ℕ) (xs : List ℕ) (count_of_points j : ℕ) (hx : count_of_points ≤ length xs) where
-  position_step : j < count_of_points → all (is_position n) (drop j (take count_of_points xs)) ≡ (is_position n (get_or xs j 0) && all (is_position n) (drop (j + 1) (take count_of_points xs)))
-  unfolding all
-  position_step h = rw (add-one j, drop-cons (take count_of_points xs) j 0 (omega (arith, length-take-le count_of_points xs hx)), get_or-take count_of_points xs j 0 h)
+pub all-listed : {A : Type 0} (f : A → Bool) (xs : List A) → list_all f xs ≡ all f xs
+unfolding all
+all-listed f [] = refl
+all-listed f (x ∷ xs) = ap (λ (b : Bool). f x && b) (all-listed f xs)
 
-  module _ (x : ℕ) (e : x ≡ get_or xs j 0) (h : j < count_of_points) where
-    pub position_low : x < 1 → all (is_position n) (drop j (take count_of_points xs)) ≡ false
-    unfolding is_position
-    position_low l = position_step h ∙ rw (sym e) (simp (lt-leb 1 x l))
-
-    pub position_high : 1 ≤ x → n < x → all (is_position n) (drop j (take count_of_points xs)) ≡ false
-    unfolding is_position
-    position_high l m = position_step h ∙ rw (sym e) (simp (le-leb 1 x l, lt-leb x n m))
-
-    pub position_on : 1 ≤ x → x ≤ n → all (is_position n) (drop j (take count_of_points xs)) ≡ all (is_position n) (drop (j + 1) (take count_of_points xs))
-    unfolding is_position
-    position_on l m = position_step h ∙ rw (sym e) (simp (le-leb 1 x l, le-leb x n m))
-
-  pub position_end : count_of_points ≤ j → all (is_position n) (drop j (take count_of_points xs)) ≡ true
-  unfolding all
-  position_end h = let e : length (take count_of_points xs) ≤ j = omega (arith, length-take-le count_of_points xs hx) in rw (drop_of_length-le (take count_of_points xs) e)
-
--- Rows one after another
-
-module _ (run : Run) (e : Env) (rows : List ℕ) (count j : ℕ) where
-  met-step : j < count → all (meets run e) (listed (row_at rows) j (count - j)) ≡ (meets run e (row_at rows j) && all (meets run e) (listed (row_at rows) (j + 1) (count - (j + 1))))
-  unfolding all listed
-  met-step h = let k : count - j ≡ suc (count - (j + 1)) = omega arith in rw (k, add-one j)
-
-  module _ (h : j < count) where
-    pub met-on : meets run e (row_at rows j) ≡ true → all (meets run e) (listed (row_at rows) (j + 1) (count - (j + 1))) ≡ all (meets run e) (listed (row_at rows) j (count - j))
-    met-on t = sym (met-step h ∙ ap (λ (b : Bool). b && all (meets run e) (listed (row_at rows) (j + 1) (count - (j + 1)))) t)
-
-    pub met-not : meets run e (row_at rows j) ≡ false → false ≡ all (meets run e) (listed (row_at rows) j (count - j))
-    met-not t = sym (met-step h ∙ ap (λ (b : Bool). b && all (meets run e) (listed (row_at rows) (j + 1) (count - (j + 1)))) t)
-
-  pub met-end : count ≤ j → true ≡ all (meets run e) (listed (row_at rows) j (count - j))
-  unfolding all listed
-  met-end h = let k : count - j ≡ 0 = omega arith in rw k
+pub all-numbered : {A : Type 0} (f : A → Bool) (g : ℕ → A) (j left : ℕ) → list_all (λ (i : ℕ). f (g i)) (range_with_len j left) ≡ all f (listed g j left)
+unfolding all listed
+all-numbered f g j zero = refl
+all-numbered f g j (suc left) = rw (add-one j) (ap (λ (b : Bool). f (g j) && b) (all-numbered f g (suc j) left))
 
 -- The whole
 
@@ -103,6 +74,9 @@ matching_off : (run : Run) (rs : List Row) (xs : List ℕ) → length xs ≡ len
 unfolding matching
 matching_off run rs xs l a = rw (eq-eqb (length xs) (length (points rs)) l, a)
 
+pub points-room : (ps table : List ℕ) (count_of_points : ℕ) → count_of_points ≡ length ps → take count_of_points table ≡ ps → count_of_points ≤ length table
+points-room ps table count_of_points en ep = omega (arith, length-take count_of_points table, ap length ep, en)
+
 -- Over a log in memory, by how the test ends: the points stand at the front of a table, and as many positions at the front of xs
 module _ (run : List ℕ) (H : Held run) (n : ℕ) (el : n ≡ line_count run) (rs : List Row) (table xs : List ℕ) (count_of_points : ℕ) (en : count_of_points ≡ length (points rs)) (ep : take count_of_points table ≡ points rs) (hx : count_of_points ≤ length xs) where
   line-is : (z : ℕ) → is_position n z ≡ is_line (run_held run) z
@@ -116,9 +90,6 @@ module _ (run : List ℕ) (H : Held run) (n : ℕ) (el : n ≡ line_count run) (
 
   size_is : length (take count_of_points xs) ≡ length (points rs)
   size_is = length-take-le count_of_points xs hx ∙ en
-
-  pub points-room : count_of_points ≤ length table
-  points-room = omega (arith, length-take count_of_points table, ap length ep, en)
 
   pub placement_off : (b : Bool) → b ≡ all (is_position n) (take count_of_points xs) → b ≡ false → false ≡ matching (run_held run) rs (take count_of_points xs)
   placement_off b e f = matching_off (run_held run) rs (take count_of_points xs) size_is (sym (lines_are (take count_of_points xs)) ∙ sym e ∙ f)

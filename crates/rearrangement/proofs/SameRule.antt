@@ -21,7 +21,7 @@ use Rattle.scenario.proofs.Faults.{faults-size, fault-at, rows-at-fault}
 use Rattle.scenario.proofs.Least.{search_says}
 use Rattle.scenario.proofs.Demand.{cutting_keeps_order, lex_same}
 use Rattle.scenario.proofs.Base.{T_eq, never}
-use Rattle.sheet.specs.declared.Answer.{Answer as Read}
+use Rattle.sheet.specs.Reading.{Answer as Read}
 use Rattle.sheet.specs.Reading.{answer, taken, sheet_in, count_in}
 use Rattle.sheet.specs.Text.{sheet_text, numbers_of}
 use Rattle.sheet.specs.Valid.{ValidSheet, rows_spelt}
@@ -31,7 +31,7 @@ use Rattle.sheet.proofs.OneText.{determined}
 use Rattle.runlog.specs.Log.{run_in, log_of, answer as log-answer}
 use Rattle.antiscenario.specs.Write.{written_text, written_lines}
 use Rattle.search.specs.Searching.{search_of, Searched, searched}
-use Rattle.verdict.specs.declared.Checked.{Checked}
+use Rattle.verdict.specs.Check.{Checked}
 use Rattle.verdict.specs.Check.{Accepted, blank, rows_in, verdict_of, violated_at, check_of}
 use Rattle.verdict.proofs.DemandThree.{low, check-is, search_is, rows_are, cut-filled}
 use Rattle.rearrangement.specs.Order.{Rearrangement, reordered, rearranged, renumbered, SamePatterns}

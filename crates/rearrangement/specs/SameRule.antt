@@ -10,7 +10,7 @@ use Rattle.sheet.specs.Text.{sheet_text, numbers_of}
 use Rattle.runlog.specs.Log.{run_in, answer as log-answer}
 use Rattle.antiscenario.specs.Write.{written_text}
 use Rattle.search.specs.Searching.{search_of, Searched}
-use Rattle.verdict.specs.declared.Checked.{Checked}
+use Rattle.verdict.specs.Check.{Checked}
 use Rattle.verdict.specs.Check.{check_of, placement_in, rows_in}
 use Rattle.rearrangement.specs.Order.{Rearrangement, reordered, rearranged, renumbered, SamePatterns}
 

@@ -17,10 +17,11 @@ use Rattle.columns.proofs.Fits.{parts-fit}
 use Rattle.columns.proofs.Spelling.{spell-length}
 use Rattle.columns.specs.Ink.{inked}
 use Rattle.columns.proofs.Inked.{after, inked-length, number-inked, byte-inked}
-use Rattle.verdict.specs.declared.Checked.{Checked}
+use Rattle.verdict.specs.Check.{Checked}
 use Rattle.report.specs.declared.Report.{Report}
 use Rattle.verdict.specs.Check.{front, placement_in, rows_in, check_of}
 use Rattle.report.specs.Printing.{InColumns, line_text, verdict_number, report_text, report_of}
+use Rattle.std.specs.Int.{from_bool}
 use Rattle.verdict.proofs.Few.{Few, few}
 
 -- One line
@@ -84,6 +85,11 @@ within n room l h e = omega arith
 -- numbers up to a bound that fits
 up_to_in_columns : (w most : ℕ) (vs : List ℕ) → 1 ≤ w → most < 10 ^ w → All (λ (x : ℕ). x ≤ most) vs → InColumns w vs
 up_to_in_columns w most vs h k A = all_map (λ v b. parts-fit w v h (omega (arith, b, k))) vs A
+
+-- the verdict's number, from the flag
+pub verdict_of : (b : Bool) → from_bool b ≡ verdict_number b
+verdict_of true = refl
+verdict_of false = refl
 
 verdict_low : (b : Bool) → verdict_number b ≤ 1
 verdict_low true = omega arith

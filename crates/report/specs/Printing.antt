@@ -3,7 +3,7 @@
 use Rattle.std.specs.Prelude.{◌≡◌, Bool, true, false, cond, List, [], ◌∷◌, ◌++◌, ℕ, length}
 use Rattle.columns.specs.Spell.{spell, fits_in}
 use Rattle.scenario.specs.Reading.{All}
-use Rattle.verdict.specs.declared.Checked.{Checked}
+use Rattle.verdict.specs.Check.{Checked}
 use Rattle.report.specs.declared.Report.{Report}
 use Rattle.verdict.specs.Check.{front, placement_in, rows_in, check_of}
 

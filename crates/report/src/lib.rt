@@ -3,22 +3,13 @@
 
 ghost use Rattle.std.specs.Prelude.{◌≡◌, ◌+◌, ◌≤◌, length};
 ghost use Rattle.columns.specs.Ink.{inked};
-ghost use Rattle.report.specs.Printing.{InColumns, line_text, verdict_number, report_of};
+ghost use Rattle.report.specs.Printing.{InColumns, line_text, report_of};
 
-// What the program prints: the text, at the front of zeros, and its length.
+// What the program prints: the text, at the front of zeros, and its length, as there is no heap.
 #[derive(Drop)]
 pub struct Report {
     pub text: [u8; 64],
     pub length: usize,
-}
-
-fn verdict_number(violated: bool) -> u32
-    ensures { result ≡ verdict_number violated }
-{
-    if violated {
-        return 1;
-    }
-    0
 }
 
 // Writes values in fields of one width, which each of them fits, from index at on, and the line's end; answers where the line ends.
@@ -28,11 +19,9 @@ fn write_line(out: &mut [u8], at: usize, width: usize, values: &[u32]) -> usize
     ensures text { out.new ≡ inked at (line_text width values.now) out.old }
 {
     let mut to = at;
-    let mut i: usize = 0;
-    while i < values.len() {
-        columns::write_number(out, to, width, values[i]);
+    for value in values {
+        columns::write_number(out, to, width, *value);
         to += width;
-        i += 1;
     }
     out[to] = 10;
     to + 1
@@ -43,18 +32,22 @@ pub fn report_check(sheet: &[u8], log: &[u8]) -> Report
     ensures text { result ≡ report_of sheet.now log.now }
     ensures fits { result.length ≤ 64 }
 {
-    let c = verdict::check(sheet, log);
     let mut text = [0u8; 64];
-    let first = [c.refusal, verdict_number(c.violated)];
-    let end = write_line(&mut text, 0, 3, &first);
-    if !c.violated {
-        return Report { text, length: end };
-    }
-    let positions = c.positions;
-    let points = c.points as usize;
-    let next = write_line(&mut text, end, 5, &positions[0..points]);
-    let rows = c.rows;
-    let consequents = c.consequents as usize;
-    let length = write_line(&mut text, next, 4, &rows[0..consequents]);
+    let verdict = match verdict::check(sheet, log) {
+        Ok(verdict) => verdict,
+        Err(refusal) => {
+            let length = write_line(&mut text, 0, 3, &[refusal.number(), 0]);
+            return Report { text, length };
+        }
+    };
+    let Some(violation) = verdict else {
+        let length = write_line(&mut text, 0, 3, &[0, 0]);
+        return Report { text, length };
+    };
+    let end = write_line(&mut text, 0, 3, &[0, 1]);
+    let points = violation.points as usize;
+    let next = write_line(&mut text, end, 5, &violation.positions[0..points]);
+    let consequents = violation.consequents as usize;
+    let length = write_line(&mut text, next, 4, &violation.rows[0..consequents]);
     Report { text, length }
 }

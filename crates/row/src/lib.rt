@@ -14,7 +14,7 @@ pub const ANTECEDENT_POINTS: u32 = 4;
 
 pub const CONSEQUENT_POINTS: u32 = 8;
 
-// Document 01, "Rows": section, kind, p, q, a, b.
+// Document 01, "Rows": section, kind, p, q, a, b. The kind is a number and no enum: document 01 has the decision over kinds 1 to 12 by ranges, and a row of another kind is read before it is refused.
 #[derive(Clone, Copy)]
 pub struct Line {
     pub section: u32,
@@ -25,40 +25,21 @@ pub struct Line {
     pub b: u32,
 }
 
-// A row that was read, or a malformed one.
-#[derive(Drop)]
-pub enum Parsed {
-    Row(Line),
-    Malformed,
-}
-
-// "4 malformed": the row in 35 bytes; the part from a field's first column is handed to the number reader.
-pub fn parse(row: &[u8]) -> Parsed
+// "4 malformed": the row in 35 bytes, where it is none; the part from a field's first column is handed to the number reader.
+pub fn parse(row: &[u8]) -> Option<Line>
     requires { length row.now ≡ 35 }
     ensures { result ≡ line_of row.now }
 {
-    let columns::Field::Value(section) = columns::number(row, 3) else {
-        return Parsed::Malformed;
-    };
-    let columns::Field::Value(kind) = columns::number(&row[3..], 3) else {
-        return Parsed::Malformed;
-    };
-    let columns::Field::Value(p) = columns::number(&row[6..], 3) else {
-        return Parsed::Malformed;
-    };
-    let columns::Field::Value(q) = columns::number(&row[9..], 3) else {
-        return Parsed::Malformed;
-    };
-    let columns::Field::Value(a) = columns::number(&row[12..], 11) else {
-        return Parsed::Malformed;
-    };
-    let columns::Field::Value(b) = columns::number(&row[23..], 11) else {
-        return Parsed::Malformed;
-    };
+    let section = columns::number(row, 3)?;
+    let kind = columns::number(&row[3..], 3)?;
+    let p = columns::number(&row[6..], 3)?;
+    let q = columns::number(&row[9..], 3)?;
+    let a = columns::number(&row[12..], 11)?;
+    let b = columns::number(&row[23..], 11)?;
     if row[34] != 10 {
-        return Parsed::Malformed;
+        return None;
     }
-    Parsed::Row(Line {
+    Some(Line {
         section,
         kind,
         p,

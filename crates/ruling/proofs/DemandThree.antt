@@ -19,7 +19,7 @@ use Rattle.verdict.specs.Check.{Accepted, check_of, placement_in}
 use Rattle.verdict.specs.Demands.{Unmatched, Enough, Finds, DemandThree}
 use Rattle.verdict.proofs.DemandThree.{F, search_is, cut-filled, matches, hits}
 use Rattle.verdict.proofs.Demands.{demand-three}
-use Rattle.ruling.specs.declared.Ruled.{Ruled}
+use Rattle.ruling.specs.Ruling.{Ruled}
 use Rattle.impossibility.specs.Impossible.{impossible}
 use Rattle.ruling.specs.Ruling.{impossible_of}
 use Rattle.ruling.specs.Demands.{Possible, DeniedPossibly, UnmatchedPossibly, EnoughPossibly, DemandThreePossibly}

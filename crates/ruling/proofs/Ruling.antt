@@ -19,7 +19,7 @@ use Rattle.search.specs.Searching.{Searched, Matches, SaysNone, search_of}
 use Rattle.search.proofs.Searching.{search_says_bytes}
 use Rattle.verdict.specs.Check.{Accepted}
 use Rattle.verdict.proofs.DemandThree.{low, search_is}
-use Rattle.ruling.specs.declared.Ruled.{Ruled}
+use Rattle.ruling.specs.Ruling.{Ruled}
 use Rattle.impossibility.specs.Impossible.{impossible}
 use Rattle.ruling.specs.Ruling.{unruled, impossible_of, RulingSays}
 use Rattle.impossibility.proofs.Exact.{impossible-is}

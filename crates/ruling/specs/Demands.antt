@@ -8,7 +8,7 @@ use Rattle.scenario.specs.Search.{RowsAtFault}
 use Rattle.sheet.specs.Reading.{count_in, sheet_in}
 use Rattle.runlog.specs.Log.{run_in}
 use Rattle.search.specs.Searching.{Matches, SaysNone, Searched}
-use Rattle.verdict.specs.declared.Checked.{Checked}
+use Rattle.verdict.specs.Check.{Checked}
 use Rattle.verdict.specs.Check.{placement_in, rows_in}
 use Rattle.verdict.specs.Demands.{Finds}
 use Rattle.ruling.specs.Ruling.{impossible_of}

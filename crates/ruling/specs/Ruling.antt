@@ -1,17 +1,28 @@
 -- Whether antiscenario m is impossible, over bytes: the answer, and what document 02, A6, wants of it. What must be believed.
 -- Assumes nothing.
-use Rattle.std.specs.Prelude.{◌≡◌, ◌↔◌, true, false, cond, List, ℕ, ◌≤◌, length, eqb}
+use Rattle.std.specs.Prelude.{Bool, Result, Ok, Err, ◌≡◌, ◌↔◌, true, false, cond, List, ℕ, ◌≤◌, length, eqb}
 use Rattle.scenario.specs.Rows.{points}
 use Rattle.scenario.specs.Sheet.{antiscenario}
 use Rattle.sheet.specs.Reading.{sheet_in}
 use Rattle.runlog.specs.Log.{answer as log-answer}
 use Rattle.antiscenario.specs.Numbers.{text_refusal}
 use Rattle.search.specs.Searching.{Matches, SaysNone, search_of}
-use Rattle.ruling.specs.declared.Ruled.{Ruled}
+use Rattle.refusal.specs.declared.Refusal.{Refusal}
+use Rattle.refusal.specs.Refusal.{number}
 use Rattle.impossibility.specs.Impossible.{Impossible, impossible}
+
+-- What the operation says: the refusal, or 0 and whether the antiscenario is impossible.
+pub record Ruled : Type 0 where
+  pub refusal : ℕ
+  pub impossible : Bool
 
 abbrev pub unruled : ℕ → Ruled
 unruled refusal = record { refusal = refusal; impossible = false }
+
+-- the answer of the code, with its refusal by number
+abbrev pub numbered : Result Bool Refusal → Ruled
+numbered (Ok b) = record { refusal = 0; impossible = b }
+numbered (Err r) = unruled (number r)
 
 -- "Its refusals are the sheet's and 31."
 unfoldable pub impossible_of : (s : List ℕ) (number : ℕ) → Ruled

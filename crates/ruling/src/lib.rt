@@ -1,38 +1,17 @@
 // Whether antiscenario `number` of a sheet is impossible: its rows contradict each other. Document 02, A6.
 #![tactic(auto)]
 
-ghost use Rattle.std.specs.Prelude.{◌≡◌};
-ghost use Rattle.ruling.specs.Ruling.{unruled as unruled_of, impossible_of, RulingSays};
+ghost use Rattle.std.specs.Prelude.{◌≡◌, OnOk};
+ghost use Rattle.ruling.specs.Ruling.{numbered, impossible_of, RulingSays};
 
-// What the operation says: the refusal, or 0 and whether the antiscenario is impossible.
-#[derive(Drop)]
-pub struct Ruled {
-    pub refusal: u32,
-    pub impossible: bool,
-}
-
-fn unruled(refusal: u32) -> Ruled
-    ensures { result ≡ unruled_of refusal }
-{
-    Ruled {
-        refusal,
-        impossible: false,
-    }
-}
+use refusal::Refusal;
 
 // "An operation says whether number m is impossible. .. Its refusals are the sheet's and 31."
-pub fn is_impossible(sheet: &[u8], number: u64) -> Ruled
-    ensures answer { result ≡ impossible_of sheet.now number }
-    ensures says { result.refusal ≡ 0 → RulingSays sheet.now number result }
+pub fn is_impossible(sheet: &[u8], number: u64) -> Result<bool, Refusal>
+    ensures answer { numbered result ≡ impossible_of sheet.now number }
+    ensures says { OnOk result (RulingSays sheet.now number (numbered result)) }
 {
     let mut rows = [0u32; pattern::ROWS_ROOM];
-    let loaded = antiscenario::load_text(sheet, number, &mut rows);
-    if loaded.refusal != 0 {
-        return unruled(loaded.refusal);
-    }
-    let impossible = contradiction::contradict(&rows, loaded.rows);
-    Ruled {
-        refusal: 0,
-        impossible,
-    }
+    let stored = antiscenario::load_text(sheet, number, &mut rows)?;
+    Ok(contradiction::contradict(&rows, stored.rows))
 }

@@ -16,9 +16,10 @@ use Rattle.scenario.proofs.Rules.{Laws, between_up, between_down, Between, up, d
 use Rattle.scenario.proofs.Logs.{laws, in_set-full}
 use Rattle.scenario.proofs.Clock.{near-one, near_apart, without_overflow}
 use Rattle.scenario.specs.Walk.{lowest_above}
-use Rattle.run.specs.Words.{ticks_in, events_in, line_count}
+use Rattle.run.specs.Words.{run_room, ticks_in, events_in, present, line_count}
 use Rattle.run.specs.Held.{Events, Held, part, log_at, bare, tick_of, near_of, log_held, run_held, or_zero}
-use Rattle.run.proofs.Words.{ticks-length}
+use Rattle.scenario.specs.Clock.{Ascending}
+use Rattle.run.proofs.Words.{ticks-length, events-length}
 use Rattle.run.proofs.Scans.{Next, nowhere, here, next_of}
 
 -- the default does not matter in a list
@@ -118,6 +119,15 @@ pub tick_in : (ticks : List ℕ) (n x : ℕ) → x ≤ n → tick_of ticks n x �
 unfolding tick_of
 tick_in ticks n x h = simp (le-ltb n x h)
 
+-- so it is that of a position, of those behind the lines the first
+pub tick_least : (ticks : List ℕ) (n x : ℕ) → tick_of ticks n x ≡ get_or ticks (min x (n + 1)) 0
+tick_least ticks n x = go (order n x)
+  where
+    go : Order n x → tick_of ticks n x ≡ get_or ticks (min x (n + 1)) 0
+    go (lower l) = let e : n + 1 ≡ min x (n + 1) = omega arith in tick_past ticks n x l ∙ ap (λ (k : ℕ). get_or ticks k 0) e
+    go (level q) = let e : x ≡ min x (n + 1) = omega arith in tick_in ticks n x (omega arith) ∙ ap (λ (k : ℕ). get_or ticks k 0) e
+    go (upper u) = let e : x ≡ min x (n + 1) = omega arith in tick_in ticks n x (omega arith) ∙ ap (λ (k : ℕ). get_or ticks k 0) e
+
 -- Between: lo and hi are the lower and the higher of the two
 
 module _ (events : List ℕ) (n : ℕ) (E : Events events n) (s x y : ℕ) where
@@ -202,3 +212,32 @@ near_reach ticks n x y lo hi t = go (order x y)
 -- The ticks of lines never fall.
 pub ticks_rise : (run : List ℕ) → Held run → (x y : ℕ) → x ≤ y → y ≤ line_count run → get_or (ticks_in run) x 0 ≤ get_or (ticks_in run) y 0
 ticks_rise run H x y l h = omega (arith, H.rising x y l, tick_in (ticks_in run) (line_count run) x (omega arith), tick_in (ticks_in run) (line_count run) y h)
+
+-- Without lines there are two ticks, the start's and the close's.
+ascending_two : (ticks : List ℕ) → get_or ticks 0 0 ≤ get_or ticks 1 0 → Ascending (tick_of ticks 0)
+ascending_two ticks r x y l = go (order x 0) (order y 0)
+  where
+    start : (z : ℕ) → z ≡ 0 → tick_of ticks 0 z ≡ get_or ticks 0 0
+    start z e = tick_in ticks 0 z (omega arith) ∙ ap (λ (k : ℕ). get_or ticks k 0) e
+
+    go : Order x 0 → Order y 0 → tick_of ticks 0 x ≤ tick_of ticks 0 y
+    go (lower h) o = absurd (omega arith)
+    go (level e) (lower h) = absurd (omega arith)
+    go (level e) (level f) = omega (arith, start x e, start y f)
+    go (level e) (upper h) = omega (arith, start x e, tick_past ticks 0 y h, r)
+    go (upper h) (lower k) = absurd (omega arith)
+    go (upper h) (level e) = absurd (omega arith)
+    go (upper h) (upper k) = omega (arith, tick_past ticks 0 x h, tick_past ticks 0 y k)
+
+-- Words without lines and maps are a run, if the close is not before the start.
+pub held_empty : (run : List ℕ) → length run ≡ run_room → line_count run ≡ 0 → present run ≡ 0 → get_or (ticks_in run) 0 0 ≤ get_or (ticks_in run) 1 0 → Held run
+held_empty run size none blank rise = record {
+  size = size;
+  lines = record {
+    room = omega (arith, events-length run (omega (arith, size)), none);
+    few = omega (arith, none);
+    small = λ x l h. absurd (omega (arith, none));
+  };
+  rising = subst (λ (n : ℕ). Ascending (tick_of (ticks_in run) n)) (sym none) (ascending_two (ticks_in run) rise);
+  mapped = λ h. absurd (h blank);
+}

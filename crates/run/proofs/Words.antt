@@ -8,7 +8,7 @@ use lib.Seq.{get_or-take, length-take-le}
 use Rattle.scenario.specs.Rows.{lower_half, upper_half}
 use Rattle.run.specs.Words.{position_count, ticks_in, events_in}
 
-lower_none : lower_half 0 ≡ 0
+pub lower_none : lower_half 0 ≡ 0
 unfolding lower_half
 lower_none = refl
 

@@ -8,11 +8,10 @@ use lib.ListN.{length, get_or, drop}
 use lib.Dec.{eqb, ltb}
 use Rattle.runlog.specs.Numbers.{last_event}
 use Rattle.columns.specs.Number.{field_at}
-use Rattle.columns.specs.declared.Field.{Field}
-use Rattle.columns.specs.declared.Field.TheVariants.{Value, Bad}
-use Rattle.runlog.specs.declared.Head.{Head as LogHead}
-use Rattle.runlog.specs.declared.LineRead.{LineRead}
-use Rattle.runlog.specs.declared.LineRead.TheVariants.{Refused, Line}
+use Rattle.std.specs.Prelude.{Option, Some, None}
+use Rattle.runlog.specs.Log.{Head as LogHead}
+use Rattle.runlog.specs.Log.{LineRead}
+use Rattle.runlog.specs.Log.LineRead.{Refused, Line}
 use Rattle.runlog.specs.Log as log
 
 -- A first line is refused with 21 to 23
@@ -21,9 +20,9 @@ log_low_if : (b : Bool) (x y : LogHead) → x.refusal ≤ 23 → y.refusal ≤ 2
 log_low_if true x y f g = f
 log_low_if false x y f g = g
 
-log-low-on : (f : Field) (g : ℕ → LogHead) → ((v : ℕ) → (g v).refusal ≤ 23) → (log.on_head f g).refusal ≤ 23
-log-low-on (Value v) g h = h v
-log-low-on Bad g h = omega arith
+log-low-on : (f : Option ℕ) (g : ℕ → LogHead) → ((v : ℕ) → (g v).refusal ≤ 23) → (log.on_head f g).refusal ≤ 23
+log-low-on (Some v) g h = h v
+log-low-on None g h = omega arith
 
 pub log-head-low : (l : List ℕ) → (log.head_of l).refusal ≤ 23
 unfolding log.head_of
@@ -46,9 +45,9 @@ low_if : (b : Bool) (x y : LineRead) → Low x → Low y → Low (cond b x y)
 low_if true x y f g = f
 low_if false x y f g = g
 
-low-on : (f : Field) (g : ℕ → LineRead) → ((v : ℕ) → Low (g v)) → Low (log.on_field f g)
-low-on (Value v) g h = h v
-low-on Bad g h = omega arith
+low-on : (f : Option ℕ) (g : ℕ → LineRead) → ((v : ℕ) → Low (g v)) → Low (log.on_field f g)
+low-on (Some v) g h = h v
+low-on None g h = omega arith
 
 line_low : (last : ℕ) (t : List ℕ) → Low (log.line_of last t)
 unfolding log.line_of

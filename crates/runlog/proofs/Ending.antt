@@ -5,7 +5,7 @@ use mathlib.Core.List.{List}
 use Prim.Native.Nat.{ℕ, ◌≤◌, ◌<◌}
 use borrow.Author.Tests.{eq-eqb, ne_eqb, lt-ltb, le-ltb}
 use Rattle.runlog.specs.Numbers.{close_below}
-use Rattle.runlog.specs.declared.Head.{Head}
+use Rattle.runlog.specs.Log.{Head}
 use Rattle.runlog.specs.Log.{head_of, lines_from, taken, refused, accepted, closing, answer}
 use Rattle.runlog.proofs.Whole.{FirstSeen, first-seen}
 

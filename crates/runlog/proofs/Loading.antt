@@ -12,12 +12,13 @@ use Rattle.scenario.specs.Log.{most_lines, Log, tick}
 use Rattle.scenario.proofs.Base.{all_get_d}
 use Rattle.scenario.proofs.Halves.{lower_half_of, upper_half_of}
 use Rattle.run.specs.Words.{position_count, run_room, ticks_in, events_in, map_in, present, line_count}
-use Rattle.run.specs.Held.{part, log_at, tick_of}
-use Rattle.run.proofs.Words.{tick_half, event_half, ticks-length, events-length}
-use Rattle.run.proofs.Logs.{default, part_length, part_at, tick_is}
-use Rattle.runlog.specs.declared.Answer.{Answer}
-use Rattle.runlog.specs.declared.Head.{Head}
-use Rattle.runlog.specs.Log.{head_of, Taken, lines_from, taken, answer, log_of, lay}
+use Rattle.run.specs.Held.{Held, part, log_at, tick_of}
+use Rattle.run.proofs.Words.{lower_none, tick_half, event_half, ticks-length, events-length}
+use Rattle.run.proofs.Logs.{default, part_length, part_at, tick_is, held_empty}
+use Rattle.runlog.specs.Log.{Answer}
+use Rattle.runlog.specs.Log.{Head}
+use Rattle.runlog.specs.Log.{head_of, line_of, LineRead, Taken, on_line, more, stop, line_bytes, lines_from, taken, answer, log_of, lay}
+use Rattle.runlog.specs.Log.LineRead.{Refused, Line}
 use Rattle.runlog.specs.Text.{Ordered}
 use Rattle.runlog.specs.Held.{words_of, Loaded}
 use Rattle.runlog.proofs.Whole.{accepted-log, answer_said, log-few}
@@ -45,6 +46,12 @@ lay-here (w ∷ ws) i m zero h r = let e : i + 0 ≡ i = omega arith in ap (λ (
 lay-here (w ∷ ws) i m (suc j) h r = let e : i + suc j ≡ suc i + j = omega arith in ap (λ (k : ℕ). get_or (lay (suc i) ws (set m i w)) k 0) e ∙ lay-here ws (suc i) (set m i w) j (omega arith) (omega (arith, length-set m i w))
 
 -- The words of lines
+
+words_few : (ts es : List ℕ) → length (words_of ts es) ≤ length ts
+unfolding words_of
+words_few [] es = omega arith
+words_few (t ∷ ts) [] = omega arith
+words_few (t ∷ ts) (e ∷ es) = omega (arith, words_few ts es)
 
 words-length : (ts es : List ℕ) → length es ≡ length ts → length (words_of ts es) ≡ length ts
 unfolding words_of
@@ -233,6 +240,33 @@ module _ (l zeros : List ℕ) (size : length zeros ≡ run_room) (blank : (i : �
       whole : run ≡ full
       whole = er ∙ ap (λ (m : List ℕ). set m 8099 h.n) (ec ∙ ap (λ (m : List ℕ). set m (h.n + 1) (set_of h.close 0)) (es' ∙ ap (λ (m : List ℕ). set m 0 (set_of h.start 0)) taken_is))
           ∙ ap (λ (q : Head). set (set (set (lay 1 (words_of ts es) zeros) 0 (set_of q.start 0)) (q.n + 1) (set_of q.close 0)) 8099 q.n) eh
+
+-- no more lines are read than are asked for
+lines_few : (s : List ℕ) (left i last : ℕ) → length (lines_from s i left last).ticks ≤ left
+unfolding lines_from
+lines_few s zero i last = omega arith
+lines_few s (suc left) i last = go (line_of last (line_bytes s i)) (lines_few s left (suc i))
+  where
+    go : (c : LineRead) → ((tick : ℕ) → length (lines_from s (suc i) left tick).ticks ≤ left) → length (on_line c (λ r. stop r (suc i) last) (λ tick event. more tick event (lines_from s (suc i) left tick))).ticks ≤ suc left
+    go (Refused r) h = omega arith
+    go (Line tick event) h = omega (arith, h tick)
+
+-- Where a log is refused, its lines may be there, but they are not counted: that is a run without lines.
+pub held_refused : (s zeros : List ℕ) (n start : ℕ) → n ≤ most_lines → length zeros ≡ run_room → ((i : ℕ) → get_or zeros i 0 ≡ 0) → (run : List ℕ)
+    → run ≡ lay 1 (words_of (lines_from s 0 n start).ticks (lines_from s 0 n start).events) zeros → Held run
+held_refused s zeros n start few size blank run is = subst Held (sym is) (held_empty laid (lay-length words 1 zeros ∙ size) (untouched 8099 (omega arith)) (untouched 8098 (omega arith)) (omega (arith, low)))
+  where
+    words : List ℕ
+    words = words_of (lines_from s 0 n start).ticks (lines_from s 0 n start).events
+
+    laid : List ℕ
+    laid = lay 1 words zeros
+
+    untouched : (x : ℕ) → 4001 ≤ x → get_or laid x 0 ≡ 0
+    untouched x h = lay_beside words 1 zeros x (inr (omega (arith, few, words_few (lines_from s 0 n start).ticks (lines_from s 0 n start).events, lines_few s n 0 start))) ∙ blank x
+
+    low : get_or (ticks_in laid) 0 0 ≡ 0
+    low = sym (tick_half laid 0 (omega arith)) ∙ ap lower_half (lay_beside words 1 zeros 0 (inl (omega arith)) ∙ blank 0) ∙ lower_none
 
 -- an array of zeros
 pub all-zeros : (n i : ℕ) → get_or {A = ℕ} (replicate n 0) i 0 ≡ 0

@@ -13,7 +13,7 @@ use Rattle.columns.proofs.Spelling.{spell-length, spell-read}
 use Rattle.scenario.specs.Log.{most_lines, Log}
 use Rattle.scenario.specs.Reading.{All}
 use Rattle.runlog.specs.Numbers.{last_tick, last_event}
-use Rattle.runlog.specs.declared.LineRead.TheVariants.{Line}
+use Rattle.runlog.specs.Log.LineRead.{Line}
 use Rattle.runlog.specs.Log.{headed, head_of, line_of, Taken, line_bytes, lines_from, taken, accepted, closing, answer, log_of}
 use Rattle.runlog.specs.Text.{head_text, line_text, lines_text, log_text, Ordered, ValidLog}
 use Rattle.columns.proofs.Lines.{past}

@@ -12,7 +12,7 @@ use Rattle.columns.specs.Spell.{spell}
 use Rattle.scenario.specs.Log.{Log, tick}
 use Rattle.scenario.proofs.Rules.{Laws}
 use Rattle.scenario.proofs.Logs.{laws}
-use Rattle.runlog.specs.declared.Answer.{Answer}
+use Rattle.runlog.specs.Log.{Answer}
 use Rattle.runlog.specs.Log.{head_of, taken, accepted, answer, log_of, run_in}
 use Rattle.runlog.specs.Text.{head_text, log_text, Ordered, ValidLog}
 use Rattle.runlog.specs.Valid.{ValidText}

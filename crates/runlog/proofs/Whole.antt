@@ -12,15 +12,14 @@ use borrow.Author.Tests.{eq-eqb, eqb-true, eqb-false, ltb-false, not-false}
 use Rattle.scenario.specs.Rows.{event_count}
 use Rattle.columns.specs.Number.{field_at}
 use Rattle.columns.specs.Spell.{spell}
-use Rattle.columns.specs.declared.Field.{Field}
-use Rattle.columns.specs.declared.Field.TheVariants.{Value, Bad}
+use Rattle.std.specs.Prelude.{Option, Some, None}
 use Rattle.scenario.specs.Reading.{All}
 use Rattle.runlog.specs.Numbers.{last_event, close_below}
 use Rattle.scenario.specs.Log.{most_lines}
-use Rattle.runlog.specs.declared.Head.{Head}
-use Rattle.runlog.specs.declared.Answer.{Answer}
-use Rattle.runlog.specs.declared.LineRead.{LineRead}
-use Rattle.runlog.specs.declared.LineRead.TheVariants.{Refused, Line}
+use Rattle.runlog.specs.Log.{Head}
+use Rattle.runlog.specs.Log.{Answer}
+use Rattle.runlog.specs.Log.{LineRead}
+use Rattle.runlog.specs.Log.LineRead.{Refused, Line}
 use Rattle.runlog.specs.Log.{headed, on_head, head_of, on_field, line_of, Taken, stop, more, on_line, line_bytes, lines_from, taken, refused, accepted, closing, answer, lay}
 use Rattle.runlog.specs.Text.{line_text, lines_text, Ordered}
 use Rattle.columns.proofs.Lines.{peel}
@@ -29,9 +28,9 @@ use Rattle.runlog.proofs.Loop.{line-length}
 -- The first line
 
 pub record FirstSeen (s : List ℕ) (h : Head) : Type 0 where
-  pub count : field_at s 5 ≡ Value h.n
-  pub start : field_at (drop 5 s) 11 ≡ Value h.start
-  pub close : field_at (drop 16 s) 11 ≡ Value h.close
+  pub count : field_at s 5 ≡ Some h.n
+  pub start : field_at (drop 5 s) 11 ≡ Some h.start
+  pub close : field_at (drop 16 s) 11 ≡ Some h.close
   pub end : get_or s 27 0 ≡ 10
   pub few : h.n ≤ most_lines
   pub length : length s ≡ 28 + 15 * h.n
@@ -48,9 +47,9 @@ module _ (s : List ℕ) where
   sure_if true n h f = sure_bad n
   sure_if false n h f = f refl
 
-  sure-on : (f : Field) (g : ℕ → Head) → ((v : ℕ) → f ≡ Value v → Sure s (g v)) → Sure s (on_head f g)
-  sure-on (Value v) g h = h v refl
-  sure-on Bad g h = sure_bad 20
+  sure-on : (f : Option ℕ) (g : ℕ → Head) → ((v : ℕ) → f ≡ Some v → Sure s (g v)) → Sure s (on_head f g)
+  sure-on (Some v) g h = h v refl
+  sure-on None g h = sure_bad 20
 
   pub first-seen : (head_of s).refusal ≡ 0 → FirstSeen s (head_of s)
   unfolding head_of
@@ -74,8 +73,8 @@ module _ (s : List ℕ) where
 -- One line
 
 record LineSeen (last : ℕ) (t : List ℕ) (tick event : ℕ) : Type 0 where
-  is-tick : field_at t 11 ≡ Value tick
-  is-event : field_at (drop 11 t) 3 ≡ Value event
+  is-tick : field_at t 11 ≡ Some tick
+  is-event : field_at (drop 11 t) 3 ≡ Some event
   end : get_or t 14 0 ≡ 10
   low : event < event_count
   after : last ≤ tick
@@ -90,9 +89,9 @@ module _ (last : ℕ) (t : List ℕ) where
   told_if true r c f = λ e. omega arith
   told_if false r c f = f refl
 
-  told-on : (f : Field) (g : ℕ → LineRead) → ((v : ℕ) → f ≡ Value v → Told (g v)) → Told (on_field f g)
-  told-on (Value v) g h = h v refl
-  told-on Bad g h = λ e. omega arith
+  told-on : (f : Option ℕ) (g : ℕ → LineRead) → ((v : ℕ) → f ≡ Some v → Told (g v)) → Told (on_field f g)
+  told-on (Some v) g h = h v refl
+  told-on None g h = λ e. omega arith
 
   told : Told (line_of last t)
   unfolding line_of

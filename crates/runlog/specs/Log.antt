@@ -1,26 +1,26 @@
 -- Document 01, "Read a log": first line, then line by line, last the close. What must be believed.
 -- Assumes nothing.
-use Rattle.std.specs.Prelude.{not, cond, List, [], ◌∷◌, ℕ, zero, suc, ◌+◌, ◌*◌, length, get_or, set, take, drop, ltb, eqb}
+use Rattle.std.specs.Prelude.{not, cond, List, [], ◌∷◌, ℕ, zero, suc, ◌+◌, ◌*◌, length, get_or, set, take, drop, ltb, eqb, Option, Some, None}
 use Rattle.columns.specs.Number.{field_at}
-use Rattle.columns.specs.declared.Field.{Field}
-use Rattle.columns.specs.declared.Field.TheVariants.{Value, Bad}
 use Rattle.scenario.specs.Rows.{Run}
 use Rattle.scenario.specs.Log.{most_lines, Log, run_of}
-use Rattle.runlog.specs.declared.Head.{Head}
-use Rattle.runlog.specs.declared.LineRead.{LineRead}
-use Rattle.runlog.specs.declared.LineRead.TheVariants.{Refused, Line}
-use Rattle.runlog.specs.declared.Answer.{Answer}
-use Rattle.runlog.specs.declared.LogRead.{LogRead}
 use Rattle.runlog.specs.Numbers.{last_event, first_line_malformed, too_many_lines, wrong_length, line_malformed, event_unknown, tick_below, close_below}
 
 -- First line: line count n (5 columns), start tick (11), close tick (11)
 
+-- What it gives: the refusal 21 to 23 or 0, the line count, the start tick and the close tick.
+pub record Head : Type 0 where
+  pub refusal : ℕ
+  pub n : ℕ
+  pub start : ℕ
+  pub close : ℕ
+
 abbrev pub headed : (refusal n start close : ℕ) → Head
 headed refusal n start close = record { refusal = refusal; n = n; start = start; close = close }
 
-abbrev pub on_head : Field → (ℕ → Head) → Head
-on_head (Value v) f = f v
-on_head Bad f = headed first_line_malformed 0 0 0
+abbrev pub on_head : Option ℕ → (ℕ → Head) → Head
+on_head (Some v) f = f v
+on_head None f = headed first_line_malformed 0 0 0
 
 unfoldable pub head_of : List ℕ → Head
 head_of s =
@@ -35,9 +35,14 @@ head_of s =
 
 -- A line: tick (11 columns), event (3); `last` is the tick of the one before, for line 1 the start
 
-abbrev pub on_field : Field → (ℕ → LineRead) → LineRead
-on_field (Value v) f = f v
-on_field Bad f = Refused line_malformed
+-- What it gives: its refusal, or its tick and its event.
+pub data LineRead : Type 0 where
+  Refused : ℕ → LineRead
+  Line : ℕ → ℕ → LineRead
+
+abbrev pub on_field : Option ℕ → (ℕ → LineRead) → LineRead
+on_field (Some v) f = f v
+on_field None f = Refused line_malformed
 
 unfoldable pub line_of : (last : ℕ) → List ℕ → LineRead
 line_of last t =
@@ -77,6 +82,19 @@ lines_from s i (suc left) last =
     on_line (line_of last (line_bytes s i)) (λ r. stop r (suc i) last) (λ tick event. more tick event (lines_from s (suc i) left tick))
 
 -- The whole
+
+-- What reading gives: the refusal and the line that it is about (0: the first line), or the line count and the start and close ticks.
+pub record Answer : Type 0 where
+  pub refusal : ℕ
+  pub line : ℕ
+  pub n : ℕ
+  pub start : ℕ
+  pub close : ℕ
+
+-- What the operation gives: the refusal, or 0 and the line count.
+pub record LogRead : Type 0 where
+  pub refusal : ℕ
+  pub lines : ℕ
 
 unfoldable pub taken : List ℕ → Taken
 taken s = cond (eqb (head_of s).refusal 0) (lines_from s 0 (head_of s).n (head_of s).start) (stop (head_of s).refusal 0 0)

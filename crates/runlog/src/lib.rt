@@ -1,11 +1,15 @@
 // Reading a log (document 01, "Read a log": 21 to 27) into memory.
 #![tactic(auto)]
 
-ghost use Rattle.std.specs.Prelude.{◌≡◌, ℕ, ◌+◌, ◌*◌, ◌≤◌, length, get_or};
+ghost use Rattle.std.specs.Prelude.{◌≡◌, ℕ, ◌+◌, ◌*◌, ◌≤◌, length, get_or, IfOk, IfErr, OnOk};
 ghost use Rattle.scenario.specs.Log.{most_lines};
-ghost use Rattle.run.specs.Words.{run_room};
-ghost use Rattle.runlog.specs.Log.{headed, refused, head_of, line_of, lines_from, answer, lines_read, lay};
+ghost use Rattle.runlog.specs.Log.{head_of, line_of, lines_from, answer, lines_read, lay};
+ghost use Rattle.runlog.specs.Numbered.{numbered_head, numbered_line, numbered_lines, numbered};
+ghost use Rattle.refusal.specs.Refusal.{log_number};
+ghost use Rattle.refusal.specs.declared.Refusal.TheVariants.{Log};
 ghost use Rattle.runlog.specs.Held.{words_of, Loaded};
+
+use refusal::{LogRefusal, Refusal};
 
 // Document 01's limits, and the bytes of the first line and of a line.
 const MOST_LINES: u32 = 4000;
@@ -16,215 +20,155 @@ const FIRST_BYTES: usize = 28;
 
 const LINE_BYTES: usize = 15;
 
-// Document 01's refusals.
-const FIRST_LINE_MALFORMED: u32 = 21;
-
-const TOO_MANY_LINES: u32 = 22;
-
-const WRONG_LENGTH: u32 = 23;
-
-const LINE_MALFORMED: u32 = 24;
-
-const EVENT_UNKNOWN: u32 = 25;
-
-const TICK_BELOW: u32 = 26;
-
-const CLOSE_BELOW: u32 = 27;
-
-// A line that was read, with its tick and its event, or its refusal.
-#[derive(Drop)]
-pub enum LineRead {
-    Refused(u32),
-    Line(u32, u32),
+// A line that was read.
+#[derive(Clone, Copy)]
+pub struct Line {
+    pub tick: u32,
+    pub event: u32,
 }
 
-// The first line: the refusal 21 to 23 or 0, the line count, the start tick and the close tick.
-#[derive(Drop)]
-pub struct Head {
-    pub refusal: u32,
-    pub n: usize,
+// How long a log is: its number of lines, and the ticks that it begins and ends with.
+#[derive(Clone, Copy)]
+pub struct Extent {
+    pub lines: usize,
     pub start: u32,
     pub close: u32,
 }
 
-// How the lines end: the refusal or 0, the line that it is about, and the last tick.
-#[derive(Drop)]
-pub struct Fault {
-    pub refusal: u32,
+// Why a log is refused, and the line that it is about (0: the first line).
+#[derive(Clone, Copy)]
+pub struct Refused {
+    pub refusal: LogRefusal,
     pub line: u32,
-    pub last: u32,
 }
 
-// What the inner readers answer: the refusal and the line that it is about (0: the first line), or the line count and the start and close ticks.
-#[derive(Drop)]
-pub struct Answer {
-    pub refusal: u32,
-    pub line: u32,
-    pub n: usize,
-    pub start: u32,
-    pub close: u32,
+// The first line is refused, or the log as a whole.
+impl From<LogRefusal> for Refused {
+    ghost from_gives = { λ refusal r. r ≡ record { refusal = refusal; line = 0 } };
+
+    fn from(refusal: LogRefusal) -> Refused {
+        Refused { refusal, line: 0 }
+    }
 }
 
-// What "Read a log" gives: the refusal, or 0 and the line count.
-#[derive(Drop)]
-pub struct LogRead {
-    pub refusal: u32,
-    pub lines: u32,
+impl From<Refused> for Refusal {
+    ghost from_gives = { λ refused r. r ≡ Log refused.refusal };
+
+    fn from(refused: Refused) -> Refusal {
+        Refusal::Log(refused.refusal)
+    }
 }
 
 // Reads a log: gives its line count, or refuses it. It writes nowhere.
-pub fn read_log(log: &[u8]) -> LogRead
-    ensures { result ≡ lines_read log.now }
+pub fn read_log(log: &[u8]) -> Result<u32, Refusal>
+    ensures { numbered_lines result ≡ lines_read log.now }
 {
-    let mut run = [0u64; run::ROOM];
-    let r = load_log(log, &mut run);
-    LogRead {
-        refusal: r.refusal,
-        lines: r.n as u32,
-    }
-}
-
-fn no_head(refusal: u32) -> Head
-    ensures { result ≡ headed refusal 0 0 0 }
-{
-    Head {
-        refusal,
-        n: 0,
-        start: 0,
-        close: 0,
-    }
+    let mut run = run::Run::new();
+    let extent = load_log(log, &mut run)?;
+    Ok(extent.lines as u32)
 }
 
 // The first line, and whether the length is what its line count asks.
-fn first_line(log: &[u8]) -> Head
-    ensures { result ≡ head_of log.now }
+fn first_line(log: &[u8]) -> Result<Extent, LogRefusal>
+    ensures { numbered_head result ≡ head_of log.now }
 {
     if log.len() < FIRST_BYTES {
-        return no_head(FIRST_LINE_MALFORMED);
+        return Err(LogRefusal::HeadMalformed);
     }
-    let columns::Field::Value(count) = columns::number(log, 5) else {
-        return no_head(FIRST_LINE_MALFORMED);
+    let Some(count) = columns::number(log, 5) else {
+        return Err(LogRefusal::HeadMalformed);
     };
-    let columns::Field::Value(start) = columns::number(&log[5..], 11) else {
-        return no_head(FIRST_LINE_MALFORMED);
+    let Some(start) = columns::number(&log[5..], 11) else {
+        return Err(LogRefusal::HeadMalformed);
     };
-    let columns::Field::Value(close) = columns::number(&log[16..], 11) else {
-        return no_head(FIRST_LINE_MALFORMED);
+    let Some(close) = columns::number(&log[16..], 11) else {
+        return Err(LogRefusal::HeadMalformed);
     };
     if log[27] != 10 {
-        return no_head(FIRST_LINE_MALFORMED);
+        return Err(LogRefusal::HeadMalformed);
     }
     if MOST_LINES < count {
-        return no_head(TOO_MANY_LINES);
+        return Err(LogRefusal::TooManyLines);
     }
     let n = count as usize;
     if log.len() != FIRST_BYTES + LINE_BYTES * n {
-        return no_head(WRONG_LENGTH);
+        return Err(LogRefusal::WrongLength);
     }
-    Head {
-        refusal: 0,
-        n,
+    Ok(Extent {
+        lines: n,
         start,
         close,
-    }
+    })
 }
 
 // A line in 15 bytes, after a line with the tick last: each field's answer is taken apart, and its refusal returns.
-fn check_line(line: &[u8], last: u32) -> LineRead
+fn check_line(line: &[u8], last: u32) -> Result<Line, LogRefusal>
     requires { length line.now ≡ 15 }
-    ensures { result ≡ line_of last line.now }
+    ensures { numbered_line result ≡ line_of last line.now }
 {
-    let columns::Field::Value(tick) = columns::number(line, 11) else {
-        return LineRead::Refused(LINE_MALFORMED);
+    let Some(tick) = columns::number(line, 11) else {
+        return Err(LogRefusal::LineMalformed);
     };
-    let columns::Field::Value(event) = columns::number(&line[11..], 3) else {
-        return LineRead::Refused(LINE_MALFORMED);
+    let Some(event) = columns::number(&line[11..], 3) else {
+        return Err(LogRefusal::LineMalformed);
     };
     if line[14] != 10 {
-        return LineRead::Refused(LINE_MALFORMED);
+        return Err(LogRefusal::LineMalformed);
     }
     if LAST_EVENT < event {
-        return LineRead::Refused(EVENT_UNKNOWN);
+        return Err(LogRefusal::EventUnknown);
     }
     if tick < last {
-        return LineRead::Refused(TICK_BELOW);
+        return Err(LogRefusal::TickBelow);
     }
-    LineRead::Line(tick, event)
+    Ok(Line { tick, event })
 }
 
-// Reads n lines into memory, until one is refused.
-fn read_lines(log: &[u8], n: usize, start: u32, run: &mut [u64; run::ROOM]) -> Fault
+// Reads n lines into memory, until one is refused; gives the last tick.
+fn read_lines(
+    log: &[u8],
+    n: usize,
+    start: u32,
+    words: &mut [u64; run::ROOM],
+) -> Result<u32, Refused>
     requires { (n ≤ most_lines) × (28 + 15 * n ≤ length log.now) }
-    ensures refusal { result.refusal ≡ (lines_from log.now 0 n start).number }
-    ensures line { result.line ≡ (lines_from log.now 0 n start).line }
-    ensures last { result.last ≡ (lines_from log.now 0 n start).last }
-    ensures words { run.new ≡ lay 1 (words_of (lines_from log.now 0 n start).ticks (lines_from log.now 0 n start).events) run.old }
+    ensures ok { IfOk result (λ last. ((lines_from log.now 0 n start).number ≡ 0) × (last ≡ (lines_from log.now 0 n start).last)) }
+    ensures err { IfErr result (λ r. (log_number r.refusal ≡ (lines_from log.now 0 n start).number) × (r.line ≡ (lines_from log.now 0 n start).line)) }
+    ensures words { words.new ≡ lay 1 (words_of (lines_from log.now 0 n start).ticks (lines_from log.now 0 n start).events) words.old }
 {
     let mut last = start;
-    let mut rest = &log[FIRST_BYTES..];
-    let mut i: usize = 0;
-    while i < n {
-        match check_line(&rest[..LINE_BYTES], last) {
-            LineRead::Refused(refusal) => {
-                return Fault {
+    let lines = &log[FIRST_BYTES..FIRST_BYTES + LINE_BYTES * n];
+    for (i, line) in lines.chunks_exact(LINE_BYTES).enumerate() {
+        match check_line(line, last) {
+            Ok(line) => {
+                run::enter(words, i + 1, line.tick, line.event);
+                last = line.tick;
+            }
+            Err(refusal) => {
+                return Err(Refused {
                     refusal,
                     line: i as u32 + 1,
-                    last,
-                };
-            }
-            LineRead::Line(tick, event) => {
-                run::enter(run, i + 1, tick, event);
-                last = tick;
+                });
             }
         }
-        rest = &rest[LINE_BYTES..];
-        i += 1;
     }
-    Fault {
-        refusal: 0,
-        line: 0,
-        last,
-    }
+    Ok(last)
 }
 
-fn no_log(refusal: u32, line: u32) -> Answer
-    ensures { result ≡ refused refusal line }
+// Reads a log into memory, in which there are zeros: its lines by position, the start before them and the close behind. Where it is refused, the lines are there that come before the refusal, and are not counted.
+pub fn load_log(log: &[u8], run: &mut run::Run) -> Result<Extent, Refused>
+    requires { (i : ℕ) → get_or run.old.words i 0 ≡ 0 }
+    ensures answers { numbered result ≡ answer log.now }
+    ensures run { OnOk result (Loaded log.now run.new.words) }
 {
-    Answer {
-        refusal,
-        line,
-        n: 0,
-        start: 0,
-        close: 0,
+    let extent = first_line(log)?;
+    let n = extent.lines;
+    let last = read_lines(log, n, extent.start, &mut run.words)?;
+    if extent.close < last {
+        return Err(Refused::from(LogRefusal::CloseBelow));
     }
-}
-
-// Reads a log into memory, in which there are zeros: its lines by position, the start before them and the close behind. Where it is refused, the lines are there that come before the refusal.
-pub fn load_log(log: &[u8], run: &mut [u64; run::ROOM]) -> Answer
-    requires { (length run.old ≡ run_room) × ((i : ℕ) → get_or run.old i 0 ≡ 0) }
-    ensures answers { result ≡ answer log.now }
-    ensures run { result.refusal ≡ 0 → Loaded log.now run.new }
-{
-    let head = first_line(log);
-    if head.refusal != 0 {
-        return no_log(head.refusal, 0);
-    }
-    let n = head.n;
-    let fault = read_lines(log, n, head.start, run);
-    if fault.refusal != 0 {
-        return no_log(fault.refusal, fault.line);
-    }
-    if head.close < fault.last {
-        return no_log(CLOSE_BELOW, 0);
-    }
-    run::enter(run, 0, head.start, 0);
-    run::enter(run, n + 1, head.close, 0);
-    run::enter_lines(run, n);
-    Answer {
-        refusal: 0,
-        line: 0,
-        n,
-        start: head.start,
-        close: head.close,
-    }
+    run::enter(&mut run.words, 0, extent.start, 0);
+    run::enter(&mut run.words, n + 1, extent.close, 0);
+    run::enter_lines(&mut run.words, n);
+    Ok(extent)
 }

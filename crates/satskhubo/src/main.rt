@@ -2,7 +2,7 @@
 // It reads the files sheet and log, or the two that its arguments name.
 #![tactic(auto)]
 
-ghost use Rattle.std.specs.Prelude.{◌≤◌, length, take, OnOk};
+ghost use Rattle.std.specs.Prelude.{◌≤◌, length, take, IfSome, OnOk};
 ghost use Rattle.std.specs.Io.KnownBytes.{Appends};
 ghost use Rattle.report.specs.Printing.{report_of};
 
@@ -21,8 +21,8 @@ fn load_or_usual<R: Files + Env + Eprint + Alloc>(
     i: usize,
     usual: &[u8],
     into: &mut [u8],
-) -> files::Loaded
-    ensures { result.size ≤ length into.old }
+) -> Option<usize>
+    ensures { IfSome result (λ size. size ≤ length into.old) }
 {
     if !has_argument(rt, 1) {
         return files::load(rt, usual, into);
@@ -35,9 +35,7 @@ fn print_report<W: Write>(out: &mut W, sheet: &[u8], log: &[u8]) -> io::Result<(
     ensures { OnOk result (Appends (W.contents out.old) (W.contents out.new) (take (report_of sheet.now log.now).length (report_of sheet.now log.now).text)) }
 {
     let report = report::report_check(sheet, log);
-    let text = report.text;
-    let length = report.length;
-    out.write_all(&text[0..length])
+    out.write_all(&report.text[..report.length])
 }
 
 // The memory has one byte more than the largest sheet and the largest log that are accepted, so that a longer file is refused and not cut.
@@ -47,15 +45,11 @@ fn main(rt: HostRuntime) -> io::Result<()> {
     if has_argument(&rt, 3) {
         return eprintln!(rt; "usage: satskhubo [SHEET LOG]");
     }
-    let s = load_or_usual(&rt, 1, b"sheet", &mut sheet);
-    if !s.read {
+    let Some(n) = load_or_usual(&rt, 1, b"sheet", &mut sheet) else {
         return Ok(());
-    }
-    let l = load_or_usual(&rt, 2, b"log", &mut log);
-    if !l.read {
+    };
+    let Some(m) = load_or_usual(&rt, 2, b"log", &mut log) else {
         return Ok(());
-    }
-    let n = s.size;
-    let m = l.size;
-    print_report(&mut io::writer(&rt), &sheet[0..n], &log[0..m])
+    };
+    print_report(&mut io::writer(&rt), &sheet[..n], &log[..m])
 }

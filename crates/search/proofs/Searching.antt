@@ -3,7 +3,7 @@
 use mathlib.Core.Path.{◌≡◌, refl, sym, ◌∙◌, ap₂, subst}
 use mathlib.Core.Bool.{Bool, true, false, not, cond}
 use mathlib.Core.List.{List}
-use Prim.Native.Nat.{ℕ, ◌-◌, ◌≤◌, ◌<◌}
+use Prim.Native.Nat.{ℕ, ◌≤◌, ◌<◌}
 use native.Mathlib.Omega.{arith}
 use lib.ListN.{length}
 use lib.Dec.{eqb, ltb}
@@ -18,7 +18,9 @@ use Rattle.sheet.specs.Reading.{sheet_in}
 use Rattle.row.specs.Memory.{rows_of}
 use Rattle.antiscenario.specs.Judge.{refusal_of}
 use Rattle.antiscenario.specs.Held.{Ready}
-use Rattle.search.specs.Searching.{filled, Searched, unsearched, searched, search_rows, search_of, Matches, Told}
+use Rattle.std.specs.Prelude.{Result, Ok, Err, OnOk}
+use Rattle.refusal.specs.declared.Refusal.{Refusal}
+use Rattle.search.specs.Searching.{answered, filled, Searched, unsearched, searched, search_rows, search_of, Matches, Told}
 use Rattle.placing.specs.Matching.{is_found}
 use Rattle.scenario.proofs.Base.{never}
 
@@ -75,3 +77,8 @@ module _ (s l : List ℕ) (m : ℕ) (places : List ℕ) where
   -- of any answer that is the definition's
   pub told : (q : Searched) → q ≡ search_of s l m places → (q ≡ search_of s l m places) × (q.refusal ≡ 0 → Told s l m places q)
   told q e = (e, subst (λ (q : Searched). q.refusal ≡ 0 → Told s l m places q) (sym e) search_says_bytes)
+
+-- what is known of an answer that is no refusal
+pub where_accepted : (r : Result Bool Refusal) (P : Type 0) → (places : List ℕ) → ((answered r places).refusal ≡ 0 → P) → OnOk r P
+where_accepted (Ok hit) P places f = f refl
+where_accepted (Err e) P places f = tt

@@ -1,13 +1,14 @@
 -- Search antiscenario m over bytes: what it says, and what the lent places hold afterwards. What must be believed.
 -- Assumes nothing.
-use Rattle.std.specs.Prelude.{◌≡◌, ◌↔◌, cond, not, false, true, Bool, List, ◌++◌, ℕ, length, drop, eqb, ltb, T}
+use Rattle.std.specs.Prelude.{◌≡◌, ◌↔◌, cond, not, false, true, Bool, List, ◌++◌, ℕ, length, drop, eqb, ltb, T, Result, Ok, Err}
 use Rattle.scenario.specs.Rows.{Row, Run, points}
 use Rattle.scenario.specs.Sheet.{Answer, antiscenario, matching, Smallest, nothing, found}
 use Rattle.scenario.specs.Search.{smallest_matching}
 use Rattle.sheet.specs.Reading.{sheet_in}
 use Rattle.runlog.specs.Log.{run_in}
 use Rattle.antiscenario.specs.Judge.{refusal_of}
-use Rattle.search.specs.declared.SearchAnswer.{SearchAnswer}
+use Rattle.refusal.specs.declared.Refusal.{Refusal}
+use Rattle.refusal.specs.Refusal.{number}
 use Rattle.placing.specs.Matching.{is_found}
 
 -- the refusal or 0, whether a matching was found, and what the lent places hold afterwards
@@ -16,12 +17,13 @@ pub record Searched : Type 0 where
   pub hit : Bool
   pub places : List ℕ
 
--- the answer that the code gives, with what it leaves in the lent places
-abbrev pub answered : SearchAnswer → List ℕ → Searched
-answered r places = record { refusal = r.refusal; hit = r.hit; places = places }
-
 abbrev pub unsearched : ℕ → List ℕ → Searched
 unsearched refusal places = record { refusal = refusal; hit = false; places = places }
+
+-- the answer that the code gives, with what it leaves in the lent places
+abbrev pub answered : Result Bool Refusal → List ℕ → Searched
+answered (Ok hit) places = record { refusal = 0; hit = hit; places = places }
+answered (Err r) places = unsearched (number r) places
 
 -- Document 01: the matching is written to the front of the lent places and those after it are kept; with "none" all are.
 unfoldable pub filled : List ℕ → Answer → List ℕ

@@ -8,17 +8,14 @@ use native.Mathlib.Omega.{arith}
 use lib.ListN.{length, get_or, drop}
 use lib.Dec.{eqb, ltb}
 use Rattle.columns.specs.Number.{field_at}
-use Rattle.columns.specs.declared.Field.{Field}
-use Rattle.columns.specs.declared.Field.TheVariants.{Value, Bad}
+use Rattle.std.specs.Prelude.{Option, Some, None}
 use Rattle.scenario.specs.Sheet.{count}
 use Rattle.row.specs.declared.Line.{Line as SheetLine}
 use Rattle.rules.specs.declared.Stand.{Stand}
-use Rattle.row.specs.declared.Parsed.{Parsed}
-use Rattle.row.specs.declared.Parsed.TheVariants.{Row as Parsed·row, Malformed}
 use Rattle.rules.specs.Rules.{start, enter, section_fits, kind_fits, p_fits, q_fits, rest_fits, room_fits, unless, refusal_within, refusal}
 use Rattle.row.specs.Row.{line_of}
 use Rattle.sheet.specs.Reading as reading
-use Rattle.sheet.specs.declared.Head.{Head as SheetHead}
+use Rattle.sheet.specs.Reading.{Head as SheetHead}
 
 -- A first line is refused with 1 to 3
 
@@ -29,9 +26,9 @@ low_if : (b : Bool) (x y : SheetHead) → Low x → Low y → Low (cond b x y)
 low_if true x y f g = f
 low_if false x y f g = g
 
-low-on : (f : Field) (g : ℕ → SheetHead) → ((v : ℕ) → Low (g v)) → Low (reading.on_head f g)
-low-on (Value v) g h = h v
-low-on Bad g h = omega arith
+low-on : (f : Option ℕ) (g : ℕ → SheetHead) → ((v : ℕ) → Low (g v)) → Low (reading.on_head f g)
+low-on (Some v) g h = h v
+low-on None g h = omega arith
 
 pub sheet-head-low : (s : List ℕ) → (reading.head_of s).refusal ≤ 3
 unfolding reading.head_of
@@ -70,11 +67,11 @@ unfolding reading.rows_from
 rows-low k s zero i at = omega arith
 rows-low k s (suc left) i at = go (line_of (reading.row_bytes s i)) (λ at. rows-low k s left (suc i) at)
   where
-    go : (p : Parsed) → ((at : Stand) → (reading.rows_from k s (suc i) left at).number ≤ 10)
+    go : (p : Option SheetLine) → ((at : Stand) → (reading.rows_from k s (suc i) left at).number ≤ 10)
         → (reading.on_line p (reading.stop 4 (suc i)) (λ l. cond (eqb (refusal k at l) 0) (reading.more l (reading.rows_from k s (suc i) left (reading.after at l))) (reading.stop (refusal k at l) (suc i)))).number ≤ 10
-    go (Parsed·row l) f =
+    go (Some l) f =
         taken-low (eqb (refusal k at l) 0) (reading.more l (reading.rows_from k s (suc i) left (reading.after at l))) (reading.stop (refusal k at l) (suc i)) (f (reading.after at l)) (row_low k at l)
-    go Malformed f = omega arith
+    go None f = omega arith
 
 sheet-closing-low : (k : ℕ) (t : reading.Taken) → t.number ≤ 10 → (reading.closing k t).refusal ≤ 10
 unfolding reading.closing

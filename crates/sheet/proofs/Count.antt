@@ -8,22 +8,15 @@ use native.Mathlib.Nat.{mul_assoc, mul-le-mul, pow-suc, pow-le-pow_right, le_tra
 use native.Mathlib.Numerals.{add-one}
 use native.Mathlib.Omega.{arith}
 use lib.Dec.{eqb, lit<}
-use lib.ListN.{length, get_or, set, replicate, length-set, get_or-replicate}
-use lib.Seq.{get_or-set_same, get_or-set_other}
+use lib.ListN.{length, get_or, set, replicate, take, drop, length-set, length-drop, get_or-replicate}
+use lib.Seq.{get_or-set_same, get_or-set_other, length-take-le}
+use Rattle.std.proofs.lemmas.List.{get_or-take, get_or-drop}
 use borrow.Author.Tests.{eq-eqb, ne_eqb, eqb-true, eqb-false, le-leb, lt-leb}
 use Rattle.row.specs.declared.Line.{Line}
 use Rattle.row.specs.Memory.{section_at, kind_at, p_at, q_at, line_in, lines_in}
 use Rattle.sheet.specs.Count.{weight_free, weight, weigh_line, weighed, Weighed, product}
 
 module _ (k p q : ℕ) where
-  pub weight_1 : k ≡ 1 → 0 ≡ weight k p q
-  unfolding weight
-  weight_1 e = rw e
-
-  pub weight_4 : 4 ≤ k → k < 6 → 0 ≡ weight k p q
-  unfolding weight
-  weight_4 lo hi = simp (ne_eqb k 1 (omega arith), le-leb 4 k (omega arith), le-leb k 5 (omega arith))
-
   pub weight_6 : k ≡ 6 → 2 ≡ weight k p q
   unfolding weight
   weight_6 e = rw e
@@ -117,6 +110,14 @@ product-step ls i k total h =
 pub product-end : (ls : List Line) (i k total : ℕ) → k ≤ i → total ≡ total * product (i + 1) (k - i) ls
 unfolding product
 product-end ls i k total h = let e : k - i ≡ 0 = omega arith in rw e (omega arith)
+
+-- the factors are the denials of the sections 1 to k
+module _ (d : List ℕ) (k : ℕ) (long : length d ≡ 7) (few : k ≤ 6) where
+  pub factors-length : length (take (k + 1 - 1) (drop 1 d)) ≡ k
+  factors-length = let e : k + 1 - 1 ≡ k = omega arith in rw e (length-take-le k (drop 1 d) (omega (arith, length-drop 1 d, long)))
+
+  pub factor-at : (i : ℕ) → i < k → get_or (take (k + 1 - 1) (drop 1 d)) i 0 ≡ get_or d (i + 1) 0
+  factor-at i h = get_or-take (k + 1 - 1) (drop 1 d) i 0 (omega arith) ∙ get_or-drop 1 d i 0 ∙ ap (λ (j : ℕ). get_or d j 0) (let e : 1 + i ≡ i + 1 = omega arith in e)
 
 -- a product of i factors, each at most 352; six of them fit
 module _ (i total w : ℕ) (t : total ≤ 352 ^ i) (l : w ≤ 352) where

@@ -13,7 +13,7 @@ use Rattle.scenario.specs.Rows.{denials, denying_rows, denying_free, end, far_en
 use Rattle.scenario.specs.Fields.{decode}
 use Rattle.scenario.specs.Sheet.{count, total, choices}
 use Rattle.row.specs.declared.Line.{Line}
-use Rattle.sheet.specs.declared.Answer.{Answer}
+use Rattle.sheet.specs.Reading.{Answer}
 use Rattle.row.specs.Row.{six, line_of, row_in}
 use Rattle.rules.specs.Rules.{refusal, section_fits, refusal_within, kind_fits, p_fits, is_due, ordinary, known, q_fits, origin_fits, known_but, ordinary_but, both_ordinary, rest_fits, set_only, both_zero, room_fits, enter, advance}
 use Rattle.sheet.specs.Reading.{answer, taken, closing, head_of, rows_from, row_bytes, after, sheet_of, section, sections}

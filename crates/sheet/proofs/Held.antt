@@ -12,7 +12,7 @@ use Rattle.row.specs.declared.Line.{Line}
 use Rattle.row.specs.Row.{row_in}
 use Rattle.row.specs.Memory.{lay, line_in, lines_in, row_at, tags_of}
 use Rattle.row.proofs.Memory.{listed-lines, lay-length}
-use Rattle.sheet.specs.declared.Answer.{Answer}
+use Rattle.sheet.specs.Reading.{Answer}
 use Rattle.sheet.specs.Reading.{sheet_of, sheet_in, taken, answer}
 use Rattle.sheet.specs.Text.{Fits}
 use Rattle.sheet.specs.Held.{sheet_at, SheetHeld, SheetLoaded}

@@ -2,17 +2,19 @@
 -- Assumes nothing.
 use mathlib.Core.Path.{◌≡◌, sym, ap, ◌∙◌}
 use mathlib.Core.Bool.{Bool, true, false, cond, ◌&&◌}
-use mathlib.Core.List.{List}
+use mathlib.Core.List.{List, ◌++◌, append_assoc}
 use Prim.Native.Nat.{ℕ, suc, ◌+◌, ◌*◌, ◌-◌, ◌≤◌, ◌<◌}
 use native.Mathlib.Nat.{sub-zero}
 use native.Mathlib.Numerals.{add-one}
 use native.Mathlib.Omega.{arith}
-use lib.ListN.{length, take, drop, length-take, length-drop}
+use lib.ListN.{length, take, drop, length-take, length-drop, length-append}
+use lib.Seq.{drop-drop, length-take-le, take-append_seam, drop-append_seam}
+use Rattle.std.proofs.lemmas.List.{take-append-drop}
 use lib.Dec.{eqb, leb}
 use borrow.Author.Tests.{ne_eqb}
 use Rattle.row.specs.declared.Line.{Line}
 use Rattle.rules.specs.declared.Stand.{Stand}
-use Rattle.row.specs.declared.Parsed.TheVariants.{Row, Malformed}
+use Rattle.std.specs.Prelude.{Some, None}
 use Rattle.rules.specs.Rules.{stand, start, enter, advance, refusal}
 use Rattle.row.specs.Row.{line_of}
 use Rattle.sheet.specs.Reading.{Taken, stop, more, on_line, after, row_bytes, rows_from}
@@ -55,13 +57,13 @@ module _ (k : ℕ) (s : List ℕ) (i n : ℕ) (at : Stand) (h : i < n) where
   unfolding rows_from
   step = let e : n - i ≡ suc (n - (i + 1)) = omega arith in rw (e, add-one i)
 
-  pub step_bad : line_of (row_bytes s i) ≡ Malformed → rows_from k s i (n - i) at ≡ stop 4 (i + 1)
+  pub step_bad : line_of (row_bytes s i) ≡ None → rows_from k s i (n - i) at ≡ stop 4 (i + 1)
   step_bad e = step ∙ rw e
 
-  pub step-refused : (l : Line) (r : ℕ) → line_of (row_bytes s i) ≡ Row l → r ≡ refusal k at l → (r ≡ 0 → ⊥) → rows_from k s i (n - i) at ≡ stop r (i + 1)
+  pub step-refused : (l : Line) (r : ℕ) → line_of (row_bytes s i) ≡ Some l → r ≡ refusal k at l → (r ≡ 0 → ⊥) → rows_from k s i (n - i) at ≡ stop r (i + 1)
   step-refused l r e q ne = step ∙ rw e (rw (sym q) (simp (ne_eqb _ _ ne)))
 
-  pub step-on : (l : Line) → line_of (row_bytes s i) ≡ Row l → 0 ≡ refusal k at l → rows_from k s i (n - i) at ≡ more l (rows_from k s (i + 1) (n - (i + 1)) (after at l))
+  pub step-on : (l : Line) → line_of (row_bytes s i) ≡ Some l → 0 ≡ refusal k at l → rows_from k s i (n - i) at ≡ more l (rows_from k s (i + 1) (n - (i + 1)) (after at l))
   step-on l e q = step ∙ rw e (rw (sym q))
 
 -- What is left from row i + 1 on, with the memory so far, is the whole.
@@ -80,7 +82,7 @@ module _ (k : ℕ) (s : List ℕ) (n : ℕ) (rows₀ : List ℕ) where
   left-start = record { number = rw sub-zero; row = rw sub-zero; memory = rw sub-zero }
 
   module _ (i : ℕ) (at : Stand) (rows : List ℕ) (L : Left k s n i at rows rows₀) where
-    pub left-on : (l : Line) → i < n → line_of (row_bytes s i) ≡ Row l → 0 ≡ refusal k at l → Left k s n (i + 1) (after at l) (put i l rows) rows₀
+    pub left-on : (l : Line) → i < n → line_of (row_bytes s i) ≡ Some l → 0 ≡ refusal k at l → Left k s n (i + 1) (after at l) (put i l rows) rows₀
     unfolding lay
     left-on l h e q =
         let o = step-on k s i n at h l e q in
@@ -101,10 +103,46 @@ module _ (k : ℕ) (s : List ℕ) (n : ℕ) (rows₀ : List ℕ) where
     unfolding rows_from
     left-none h = let e : n - i ≡ 0 = omega arith in left-stop 0 0 (rw e)
 
--- the part that is read as a row
-pub part-row : (s : List ℕ) (i : ℕ) → take (7 + 35 * i + 35 - (7 + 35 * i)) (drop (7 + 35 * i) s) ≡ row_bytes s i
-unfolding row_bytes
-part-row s i = let e : 7 + 35 * i + 35 - (7 + 35 * i) ≡ 35 = omega arith in rw e
+-- The bytes of the rows from row i + 1 on, of n rows: behind them comes what follows the last.
+pub record Rest (s : List ℕ) (n i : ℕ) (rest : List ℕ) : Type 0 where
+  pub text : drop (7 + 35 * i) s ≡ rest ++ drop (7 + 35 * n) s
+  pub long : length rest + 35 * i ≡ 35 * n
+
+pub rest_first : (s : List ℕ) (n : ℕ) → 7 + 35 * n ≤ length s → (m : ℕ) → m ≡ 35 * n → Rest s n 0 (take m (drop 7 s))
+rest_first s n h m e =
+    rw e (record {
+      text = sym (take-append-drop (35 * n) (drop 7 s)) ∙ ap (λ (t : List ℕ). take (35 * n) (drop 7 s) ++ t) (drop-drop (35 * n) 7 s);
+      long = omega (arith, length-take-le (35 * n) (drop 7 s) (omega (arith, length-drop 7 s)));
+    })
+
+pub rest_none : (s : List ℕ) (n i : ℕ) (rest : List ℕ) → Rest s n i rest → length rest < 35 → n ≤ i
+rest_none s n i rest R h = omega (arith, R.long)
+
+-- a row more: it stands in front of the rest
+module _ (s : List ℕ) (n i : ℕ) (rest bytes behind : List ℕ) (R : Rest s n i rest) (cut : rest ≡ bytes ++ behind) (whole : length bytes ≡ 35) where
+  cut_text : drop (7 + 35 * i) s ≡ bytes ++ (behind ++ drop (7 + 35 * n) s)
+  cut_text = R.text ∙ ap (λ (t : List ℕ). t ++ drop (7 + 35 * n) s) cut ∙ append_assoc bytes behind (drop (7 + 35 * n) s)
+
+  lengths : length rest ≡ 35 + length behind
+  lengths = omega (arith, ap length cut, length-append bytes behind, whole)
+
+  pub row-left : i < n
+  row-left = omega (arith, R.long, lengths)
+
+  pub row-there : bytes ≡ row_bytes s i
+  unfolding row_bytes
+  row-there =
+      let seam = take-append_seam bytes (behind ++ drop (7 + 35 * n) s) in
+      sym (ap (take 35) cut_text ∙ ap (λ (k : ℕ). take k (bytes ++ (behind ++ drop (7 + 35 * n) s))) (sym whole) ∙ seam)
+
+  pub rest_next : Rest s n (i + 1) behind
+  rest_next =
+      let ys = behind ++ drop (7 + 35 * n) s in
+      let k : 7 + 35 * (i + 1) ≡ 7 + 35 * i + 35 = omega arith in
+      record {
+        text = ap (λ (j : ℕ). drop j s) k ∙ sym (drop-drop 35 (7 + 35 * i) s) ∙ ap (drop 35) cut_text ∙ ap (λ (j : ℕ). drop j (bytes ++ ys)) (sym whole) ∙ drop-append_seam bytes ys;
+        long = omega (arith, R.long, lengths);
+      }
 
 pub row-length : (s : List ℕ) (i n : ℕ) → i < n → 7 + 35 * n ≤ length s → length (row_bytes s i) ≡ 35
 unfolding row_bytes

@@ -9,13 +9,10 @@ use lib.ListN.{length, get_or, drop}
 use lib.Dec.{eqb, ltb}
 use borrow.Author.Tests.{eqb-true, eqb-false, ltb-false, not-false}
 use Rattle.columns.specs.Number.{field_at}
-use Rattle.columns.specs.declared.Field.{Field}
-use Rattle.columns.specs.declared.Field.TheVariants.{Value, Bad}
+use Rattle.std.specs.Prelude.{Option, Some, None}
 use Rattle.row.specs.declared.Line.{Line}
-use Rattle.sheet.specs.declared.Head.{Head}
+use Rattle.sheet.specs.Reading.{Head}
 use Rattle.rules.specs.declared.Stand.{Stand}
-use Rattle.row.specs.declared.Parsed.{Parsed}
-use Rattle.row.specs.declared.Parsed.TheVariants.{Row, Malformed}
 use Rattle.row.specs.Row.{line_of}
 use Rattle.rules.specs.Rules.{refusal}
 use Rattle.sheet.specs.Reading.{headed, on_head, head_of, Taken, stop, more, on_line, after, row_bytes, rows_from}
@@ -26,8 +23,8 @@ pub record Good (s : List ℕ) (h : Head) : Type 0 where
   pub k : h.k ≤ 6
   pub rows : h.rows ≤ 176
   pub length : length s ≡ 7 + 35 * h.rows
-  pub first : field_at s 3 ≡ Value h.k
-  pub second : field_at (drop 3 s) 3 ≡ Value h.rows
+  pub first : field_at s 3 ≡ Some h.k
+  pub second : field_at (drop 3 s) 3 ≡ Some h.rows
   pub end : get_or s 6 0 ≡ 10
 
 Sure : List ℕ → Head → Type 0
@@ -42,9 +39,9 @@ module _ (s : List ℕ) where
   sure_if true x y f g = f refl
   sure_if false x y f g = g refl
 
-  sure-on : (f : Field) (g : ℕ → Head) → ((v : ℕ) → f ≡ Value v → Sure s (g v)) → Sure s (on_head f g)
-  sure-on (Value v) g h = h v refl
-  sure-on Bad g h = sure_bad 0
+  sure-on : (f : Option ℕ) (g : ℕ → Head) → ((v : ℕ) → f ≡ Some v → Sure s (g v)) → Sure s (on_head f g)
+  sure-on (Some v) g h = h v refl
+  sure-on None g h = sure_bad 0
 
   sure-head : Sure s (head_of s)
   unfolding head_of Sure
@@ -83,9 +80,9 @@ module _ (n : ℕ) where
   full_if true x y f g = f refl
   full_if false x y f g = g refl
 
-  full-on : (p : Parsed) (x : Taken) (g : Line → Taken) → Full n x → ((l : Line) → Full n (g l)) → Full n (on_line p x g)
-  full-on (Row l) x g h f = f l
-  full-on Malformed x g h f = h
+  full-on : (p : Option Line) (x : Taken) (g : Line → Taken) → Full n x → ((l : Line) → Full n (g l)) → Full n (on_line p x g)
+  full-on (Some l) x g h f = f l
+  full-on None x g h f = h
 
 full-more : (n : ℕ) (l : Line) (t : Taken) → Full n t → Full (suc n) (more l t)
 unfolding Full

@@ -11,14 +11,13 @@ use lib.Seq.{get_or-drop}
 use borrow.Author.Tests.{eq-eqb, le-ltb}
 use Rattle.columns.specs.Number.{field_at}
 use Rattle.columns.specs.Spell.{spell}
-use Rattle.columns.specs.declared.Field.TheVariants.{Value}
+use Rattle.std.specs.Prelude.{Some}
 use Rattle.columns.proofs.Spelling.{spell-read}
 use Rattle.scenario.specs.Fields.{Fields, five, fields}
 use Rattle.scenario.specs.Sheet.{count}
 use Rattle.scenario.specs.Reading.{All}
 use Rattle.row.specs.declared.Line.{Line}
 use Rattle.rules.specs.declared.Stand.{Stand}
-use Rattle.row.specs.declared.Parsed.TheVariants.{Row}
 use Rattle.row.specs.Row.{six, line_of, row_in}
 use Rattle.rules.specs.Rules.{start}
 use Rattle.sheet.specs.Reading.{headed, head_of, Taken, more, after, row_bytes, rows_from, sheet_of, taken, accepted, closing, answer, sheet_in}
@@ -30,7 +29,7 @@ use Rattle.sheet.proofs.Theorems.{tag, accepted-sheet}
 
 -- The first line of a text is read as k and the row count.
 
-head-is : (s : List ℕ) (k n : ℕ) → length s ≡ 7 + 35 * n → field_at s 3 ≡ Value k → field_at (drop 3 s) 3 ≡ Value n → get_or s 6 0 ≡ 10 → k ≤ 6 → n ≤ 176
+head-is : (s : List ℕ) (k n : ℕ) → length s ≡ 7 + 35 * n → field_at s 3 ≡ Some k → field_at (drop 3 s) 3 ≡ Some n → get_or s 6 0 ≡ 10 → k ≤ 6 → n ≤ 176
     → head_of s ≡ headed 0 k n
 unfolding head_of
 head-is s k n size f g e hk hn =
@@ -61,7 +60,7 @@ rows-read : (k : ℕ) (ls : List Line) (front : List ℕ) (i : ℕ) (at : Stand)
 unfolding rows_from rows_text
 rows-read k [] front i at h A = refl
 rows-read k (l ∷ ls) front i at h A =
-    let line : line_of (row_bytes (front ++ (row_text l ++ rows_text ls)) i) ≡ Row l = ap line_of (row_at_lem front (rows_text ls) l i h) ∙ row_read l A.1.0 in
+    let line : line_of (row_bytes (front ++ (row_text l ++ rows_text ls)) i) ≡ Some l = ap line_of (row_at_lem front (rows_text ls) l i h) ∙ row_read l A.1.0 in
     let rest : rows_from k (front ++ (row_text l ++ rows_text ls)) (suc i) (length ls) (after at l) ≡ all ls =
     subst (λ (t : List ℕ). rows_from k t (suc i) (length ls) (after at l) ≡ all ls) (append_assoc front (row_text l) (rows_text ls))
     (rows-read k ls (front ++ row_text l) (suc i) (after at l) (omega (arith, length-append front (row_text l), row_text-length l, h)) A.1.1) in

@@ -17,7 +17,7 @@ use Rattle.scenario.proofs.Halves.{lower_half_of, upper_half_of, set_of-events}
 use Rattle.scenario.proofs.Numbers.{any-kind}
 use Rattle.rules.specs.declared.Stand.{Stand}
 use Rattle.rules.specs.Rules.{advance, ordinary, known, is_due, known_but, ordinary_but, both_ordinary, kind_fits, p_fits, origin_fits, q_fits, set_only, both_zero, rest_fits}
-use Rattle.rules.proofs.Arms.{kind-high}
+use Rattle.rules.proofs.Fitting.{kind-high}
 
 pub both_true : (a b : Bool) → (a && b) ≡ true → (a ≡ true) × (b ≡ true)
 both_true true b e = (refl, e)

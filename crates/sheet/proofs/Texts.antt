@@ -11,13 +11,10 @@ use lib.Dec.{eqb}
 use borrow.Author.Tests.{eqb-true, eqb-false}
 use Rattle.columns.specs.Number.{field_at}
 use Rattle.columns.specs.Spell.{spell}
-use Rattle.columns.specs.declared.Field.{Field}
-use Rattle.columns.specs.declared.Field.TheVariants.{Value, Bad}
+use Rattle.std.specs.Prelude.{Option, Some, None}
 use Rattle.columns.proofs.Spelling.{spell-length, spell-read}
 use Rattle.columns.proofs.Lines.{past, peel}
 use Rattle.row.specs.declared.Line.{Line}
-use Rattle.row.specs.declared.Parsed.{Parsed}
-use Rattle.row.specs.declared.Parsed.TheVariants.{Row, Malformed}
 use Rattle.rules.specs.declared.Stand.{Stand}
 use Rattle.row.specs.Row.{six, on_field, line_of}
 use Rattle.rules.specs.Rules.{refusal}
@@ -110,7 +107,7 @@ module _ (l : Line) where
   end_is : get_or r0 34 0 ≡ 10
   end_is = sym (get_or-drop 34 r0 0 0) ∙ ap (λ (x : List ℕ). get_or x 0 0) (past 3 l.section 31 r1 ∙ past 3 l.kind 28 r2 ∙ past 3 l.p 25 r3 ∙ past 3 l.q 22 r4 ∙ past 11 l.a 11 r5 ∙ past 11 l.b 0 r6)
 
-  pub row_read : Fits l → line_of (row_text l) ≡ Row l
+  pub row_read : Fits l → line_of (row_text l) ≡ Some l
   unfolding line_of row_text
   row_read F =
       rw (from_1, from_2, from_3, from_4, from_5)
@@ -126,45 +123,45 @@ module _ (l : Line) where
 
 -- No other text: the six fields of a row that is read
 record Six (t : List ℕ) (l : Line) : Type 0 where
-  section : field_at t 3 ≡ Value l.section
-  kind : field_at (drop 3 t) 3 ≡ Value l.kind
-  p : field_at (drop 6 t) 3 ≡ Value l.p
-  q : field_at (drop 9 t) 3 ≡ Value l.q
-  a : field_at (drop 12 t) 11 ≡ Value l.a
-  b : field_at (drop 23 t) 11 ≡ Value l.b
+  section : field_at t 3 ≡ Some l.section
+  kind : field_at (drop 3 t) 3 ≡ Some l.kind
+  p : field_at (drop 6 t) 3 ≡ Some l.p
+  q : field_at (drop 9 t) 3 ≡ Some l.q
+  a : field_at (drop 12 t) 11 ≡ Some l.a
+  b : field_at (drop 23 t) 11 ≡ Some l.b
   end : get_or t 34 0 ≡ 10
 
-malformed_not : (l : Line) → Malformed ≡ Row l → ⊥
+malformed_not : (l : Line) → None ≡ Some l → ⊥
 malformed_not l h = let z : ◌≡◌ {A = ℕ} 0 1 = cc in omega arith
 
-six_of : (t : List ℕ) (l : Line) → line_of t ≡ Row l → Six t l
+six_of : (t : List ℕ) (l : Line) → line_of t ≡ Some l → Six t l
 unfolding line_of
 six_of t l e = go (field_at t 3) (field_at (drop 3 t) 3) (field_at (drop 6 t) 3) (field_at (drop 9 t) 3) (field_at (drop 12 t) 11) (field_at (drop 23 t) 11) (eqb (get_or t 34 0) 10) refl refl refl refl refl refl refl e
   where
-    go : (f1 f2 f3 f4 f5 f6 : Field) (z : Bool) → field_at t 3 ≡ f1 → field_at (drop 3 t) 3 ≡ f2 → field_at (drop 6 t) 3 ≡ f3 → field_at (drop 9 t) 3 ≡ f4
+    go : (f1 f2 f3 f4 f5 f6 : Option ℕ) (z : Bool) → field_at t 3 ≡ f1 → field_at (drop 3 t) 3 ≡ f2 → field_at (drop 6 t) 3 ≡ f3 → field_at (drop 9 t) 3 ≡ f4
         → field_at (drop 12 t) 11 ≡ f5 → field_at (drop 23 t) 11 ≡ f6 → eqb (get_or t 34 0) 10 ≡ z
-        → on_field f1 (λ s. on_field f2 (λ kind. on_field f3 (λ p. on_field f4 (λ q. on_field f5 (λ a. on_field f6 (λ b. cond z (Row (six s kind p q a b)) Malformed)))))) ≡ Row l → Six t l
-    go (Value s) (Value k) (Value p) (Value q) (Value a) (Value b) true e1 e2 e3 e4 e5 e6 e7 e =
+        → on_field f1 (λ s. on_field f2 (λ kind. on_field f3 (λ p. on_field f4 (λ q. on_field f5 (λ a. on_field f6 (λ b. cond z (Some (six s kind p q a b)) None)))))) ≡ Some l → Six t l
+    go (Some s) (Some k) (Some p) (Some q) (Some a) (Some b) true e1 e2 e3 e4 e5 e6 e7 e =
         let x : six s k p q a b ≡ l = cc in
         record {
-          section = e1 ∙ ap (λ (y : Line). Value y.section) x;
-          kind = e2 ∙ ap (λ (y : Line). Value y.kind) x;
-          p = e3 ∙ ap (λ (y : Line). Value y.p) x;
-          q = e4 ∙ ap (λ (y : Line). Value y.q) x;
-          a = e5 ∙ ap (λ (y : Line). Value y.a) x;
-          b = e6 ∙ ap (λ (y : Line). Value y.b) x;
+          section = e1 ∙ ap (λ (y : Line). Some y.section) x;
+          kind = e2 ∙ ap (λ (y : Line). Some y.kind) x;
+          p = e3 ∙ ap (λ (y : Line). Some y.p) x;
+          q = e4 ∙ ap (λ (y : Line). Some y.q) x;
+          a = e5 ∙ ap (λ (y : Line). Some y.a) x;
+          b = e6 ∙ ap (λ (y : Line). Some y.b) x;
           end = eqb-true (get_or t 34 0) 10 e7;
         }
-    go (Value s) (Value k) (Value p) (Value q) (Value a) (Value b) false e1 e2 e3 e4 e5 e6 e7 e = absurd (malformed_not l e)
-    go (Value s) (Value k) (Value p) (Value q) (Value a) Bad z e1 e2 e3 e4 e5 e6 e7 e = absurd (malformed_not l e)
-    go (Value s) (Value k) (Value p) (Value q) Bad f6 z e1 e2 e3 e4 e5 e6 e7 e = absurd (malformed_not l e)
-    go (Value s) (Value k) (Value p) Bad f5 f6 z e1 e2 e3 e4 e5 e6 e7 e = absurd (malformed_not l e)
-    go (Value s) (Value k) Bad f4 f5 f6 z e1 e2 e3 e4 e5 e6 e7 e = absurd (malformed_not l e)
-    go (Value s) Bad f3 f4 f5 f6 z e1 e2 e3 e4 e5 e6 e7 e = absurd (malformed_not l e)
-    go Bad f2 f3 f4 f5 f6 z e1 e2 e3 e4 e5 e6 e7 e = absurd (malformed_not l e)
+    go (Some s) (Some k) (Some p) (Some q) (Some a) (Some b) false e1 e2 e3 e4 e5 e6 e7 e = absurd (malformed_not l e)
+    go (Some s) (Some k) (Some p) (Some q) (Some a) None z e1 e2 e3 e4 e5 e6 e7 e = absurd (malformed_not l e)
+    go (Some s) (Some k) (Some p) (Some q) None f6 z e1 e2 e3 e4 e5 e6 e7 e = absurd (malformed_not l e)
+    go (Some s) (Some k) (Some p) None f5 f6 z e1 e2 e3 e4 e5 e6 e7 e = absurd (malformed_not l e)
+    go (Some s) (Some k) None f4 f5 f6 z e1 e2 e3 e4 e5 e6 e7 e = absurd (malformed_not l e)
+    go (Some s) None f3 f4 f5 f6 z e1 e2 e3 e4 e5 e6 e7 e = absurd (malformed_not l e)
+    go None f2 f3 f4 f5 f6 z e1 e2 e3 e4 e5 e6 e7 e = absurd (malformed_not l e)
 
 -- the numbers of a row that is read fit their columns
-pub row_fits : (t : List ℕ) (l : Line) → line_of t ≡ Row l → Fits l
+pub row_fits : (t : List ℕ) (l : Line) → line_of t ≡ Some l → Fits l
 row_fits t l e =
     let S = six_of t l e in
     record {
@@ -176,7 +173,7 @@ row_fits t l e =
       b = (field-most (drop 23 t) 11 l.b S.b).0;
     }
 
-pub row-only : (t : List ℕ) (l : Line) → length t ≡ 35 → line_of t ≡ Row l → t ≡ row_text l
+pub row-only : (t : List ℕ) (l : Line) → length t ≡ 35 → line_of t ≡ Some l → t ≡ row_text l
 unfolding row_text
 row-only t l n e =
     let S = six_of t l e in
@@ -191,7 +188,7 @@ row-only t l n e =
 
 -- The whole text
 
-pub head-only : (s : List ℕ) (k n : ℕ) → field_at s 3 ≡ Value k → field_at (drop 3 s) 3 ≡ Value n → get_or s 6 0 ≡ 10 → 7 ≤ length s → s ≡ head_text k n ++ drop 7 s
+pub head-only : (s : List ℕ) (k n : ℕ) → field_at s 3 ≡ Some k → field_at (drop 3 s) 3 ≡ Some n → get_or s 6 0 ≡ 10 → 7 ≤ length s → s ≡ head_text k n ++ drop 7 s
 unfolding head_text
 head-only s k n first second end h =
     let c : drop 6 s ≡ 10 ∷ drop 7 s = drop-cons s 6 0 (omega arith) ∙ ap (λ (b : ℕ). b ∷ drop 7 s) end in
@@ -216,17 +213,17 @@ module _ (k : ℕ) (s : List ℕ) where
   rows-only zero i at h = λ e. drop_of_length-le s {i = 7 + 35 * i} (omega arith)
   rows-only (suc left) i at h = is_line (line_of (row_bytes s i)) refl (λ l. rows-only left (suc i) (after at l) (omega arith))
     where
-      row : (l : Line) → line_of (row_bytes s i) ≡ Row l → (t : Taken) → (t.number ≡ 0 → drop (7 + 35 * suc i) s ≡ rows_text t.lines) → t.number ≡ 0 → drop (7 + 35 * i) s ≡ row_text l ++ rows_text t.lines
+      row : (l : Line) → line_of (row_bytes s i) ≡ Some l → (t : Taken) → (t.number ≡ 0 → drop (7 + 35 * suc i) s ≡ rows_text t.lines) → t.number ≡ 0 → drop (7 + 35 * i) s ≡ row_text l ++ rows_text t.lines
       row l e t r z = row_next s i ∙ ap₂ (λ (x y : List ℕ). x ++ y) (row-only (row_bytes s i) l (row-length s i (suc i) (omega arith) (omega arith)) e) (r z)
 
-      is_line : (p : Parsed) → line_of (row_bytes s i) ≡ p → ((l : Line) → Texted (drop (7 + 35 * suc i) s) (rows_from k s (suc i) left (after at l)))
+      is_line : (p : Option Line) → line_of (row_bytes s i) ≡ p → ((l : Line) → Texted (drop (7 + 35 * suc i) s) (rows_from k s (suc i) left (after at l)))
           → Texted (drop (7 + 35 * i) s) (on_line p (stop 4 (suc i)) (λ l. cond (eqb (refusal k at l) 0) (more l (rows_from k s (suc i) left (after at l))) (stop (refusal k at l) (suc i))))
-      is_line (Row l) e r = go (eqb (refusal k at l) 0) refl
+      is_line (Some l) e r = go (eqb (refusal k at l) 0) refl
         where
           go : (b : Bool) → eqb (refusal k at l) 0 ≡ b → Texted (drop (7 + 35 * i) s) (cond b (more l (rows_from k s (suc i) left (after at l))) (stop (refusal k at l) (suc i)))
           go true x = λ z. row l e (rows_from k s (suc i) left (after at l)) (r l) z
           go false x = λ z. absurd (eqb-false (refusal k at l) 0 x z)
-      is_line Malformed e r = λ z. absurd (omega arith)
+      is_line None e r = λ z. absurd (omega arith)
 
 -- THE TEXT: what is accepted is the text of its rows
 pub text-only : (s : List ℕ) → Good s (head_of s) → (at : Stand) → (rows_from (head_of s).k s 0 (head_of s).rows at).number ≡ 0

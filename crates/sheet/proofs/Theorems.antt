@@ -17,11 +17,10 @@ use Rattle.scenario.specs.Log.{Log, run_of}
 use Rattle.scenario.proofs.Final.{demand-three}
 use Rattle.scenario.specs.Reading.{All, SheetRead}
 use Rattle.scenario.proofs.Base.{Order, lower, level, upper, order}
-use Rattle.sheet.specs.declared.Answer.{Answer}
+use Rattle.sheet.specs.Reading.{Answer}
 use Rattle.row.specs.declared.Line.{Line}
 use Rattle.rules.specs.declared.Stand.{Stand}
-use Rattle.row.specs.declared.Parsed.{Parsed}
-use Rattle.row.specs.declared.Parsed.TheVariants.{Row as Parsed·row, Malformed}
+use Rattle.std.specs.Prelude.{Option, Some, None}
 use Rattle.rules.specs.Rules.{start, refusal}
 use Rattle.row.specs.Row.{line_of, row_in}
 use Rattle.sheet.specs.Reading.{head_of, Taken, stop, on_line, after, row_bytes, rows_from, section, sections, sheet_of, taken, refused, accepted, closing, answer}
@@ -29,7 +28,7 @@ use Rattle.sheet.specs.Numbers.{most_antiscenarios}
 use Rattle.row.specs.Memory.{lay, lines_in}
 use Rattle.sheet.specs.Text.{Fits, sheet_text}
 use Rattle.sheet.proofs.Texts.{row_fits, text-only}
-use Rattle.rules.proofs.Arms.{kind-low, kind-high}
+use Rattle.rules.proofs.Fitting.{kind-low, kind-high}
 use Rattle.sheet.proofs.Points.{fields_back}
 use Rattle.sheet.proofs.Memory.{head_good, rows-full}
 use Rattle.row.proofs.Memory.{lines-back}
@@ -46,9 +45,9 @@ module _ (k : ℕ) (at : Stand) where
   fine_if true x y f g = f refl
   fine_if false x y f g = g refl
 
-  fine-on : (p : Parsed) (x : Taken) (g : Line → Taken) → Fine k at x → ((l : Line) → p ≡ Parsed·row l → Fine k at (g l)) → Fine k at (on_line p x g)
-  fine-on (Parsed·row l) x g h f = f l refl
-  fine-on Malformed x g h f = h
+  fine-on : (p : Option Line) (x : Taken) (g : Line → Taken) → Fine k at x → ((l : Line) → p ≡ Some l → Fine k at (g l)) → Fine k at (on_line p x g)
+  fine-on (Some l) x g h f = f l refl
+  fine-on None x g h f = h
 
 module _ (k : ℕ) (s : List ℕ) where
   fine : (left i : ℕ) (at : Stand) → Fine k at (rows_from k s i left at)

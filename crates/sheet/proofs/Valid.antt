@@ -17,7 +17,7 @@ use Rattle.scenario.specs.Reading.{Counted}
 use Rattle.scenario.proofs.Base.{Order, lower, level, upper, order}
 use Rattle.scenario.proofs.Glue.{points_append}
 use Rattle.scenario.proofs.Numbers.{decode-fields}
-use Rattle.sheet.specs.declared.Answer.{Answer}
+use Rattle.sheet.specs.Reading.{Answer}
 use Rattle.row.specs.declared.Line.{Line}
 use Rattle.rules.specs.declared.Stand.{Stand}
 use Rattle.rules.specs.Rules.{start, enter, section_fits, room_fits, refusal_within, refusal}

@@ -11,8 +11,7 @@ use lib.Seq.{length-take-le}
 use lib.Dec.{eqb, leb, lit<}
 use borrow.Author.Tests.{leb-true}
 use Rattle.columns.specs.Number.{after_spaces, is_digit, all_digits, decimal, well_led, field_at, numeral, scan, largest}
-use Rattle.columns.specs.declared.Field.{Field}
-use Rattle.columns.specs.declared.Field.TheVariants.{Value, Bad}
+use Rattle.std.specs.Prelude.{Option, Some, None}
 use Rattle.sheet.proofs.Points.{both_true}
 
 decimal-below : (m : ℕ) (l : List ℕ) (v : ℕ) → all_digits l ≡ true → v < 10 ^ m → decimal v l < 10 ^ (m + length l)
@@ -31,11 +30,11 @@ spaces_shorten (b ∷ l) = go (eqb b 32) (spaces_shorten l)
     go true h = omega arith
     go false h = omega arith
 
-abbrev Most : ℕ → Field → Type 0
-Most w (Value v) = (v ≤ largest) × (v < 10 ^ w)
-Most w Bad = Unit {0}
+abbrev Most : ℕ → Option ℕ → Type 0
+Most w (Some v) = (v ≤ largest) × (v < 10 ^ w)
+Most w None = Unit {0}
 
-most_if : (w : ℕ) (b : Bool) (f : Field) → (b ≡ true → Most w f) → Most w (cond b f Bad)
+most_if : (w : ℕ) (b : Bool) (f : Option ℕ) → (b ≡ true → Most w f) → Most w (cond b f None)
 most_if w true f h = h refl
 most_if w false f h = tt
 
@@ -52,5 +51,5 @@ most s w =
       le_trans (decimal-below 0 digits 0 C.0 (lit< tt)) (pow-le-pow_right {n = 10} (lit< tt) {i = 0 + length digits} {j = w} size),
     ))))
 
-pub field-most : (s : List ℕ) (w v : ℕ) → field_at s w ≡ Value v → (v ≤ largest) × (v < 10 ^ w)
+pub field-most : (s : List ℕ) (w v : ℕ) → field_at s w ≡ Some v → (v ≤ largest) × (v < 10 ^ w)
 field-most s w v e = subst (Most w) e (most s w)

@@ -7,7 +7,7 @@ use native.Mathlib.Omega.{arith}
 use lib.ListN.{length}
 use borrow.Author.Tests.{eq-eqb, ne_eqb}
 use Rattle.scenario.specs.Sheet.{count}
-use Rattle.sheet.specs.declared.Head.{Head}
+use Rattle.sheet.specs.Reading.{Head}
 use Rattle.rules.specs.Rules.{start}
 use Rattle.sheet.specs.Reading.{head_of, Taken, rows_from, sheet_of, taken, refused, accepted, closing, answer}
 use Rattle.row.specs.Memory.{lay, lines_in}

@@ -2,7 +2,7 @@
 -- Assumes nothing.
 use Rattle.std.specs.Prelude.{cond, List, ℕ, length, ltb, eqb}
 use Rattle.scenario.specs.Sheet.{count}
-use Rattle.sheet.specs.declared.Answer.{Answer}
+use Rattle.sheet.specs.Reading.{Answer}
 use Rattle.sheet.specs.Reading.{Taken, head_of, taken, sheet_of, refused, accepted}
 
 -- document 01: "last 11 N over 4,096"

@@ -9,7 +9,7 @@ use Rattle.sheet.specs.Reading.{sheet_of}
 use Rattle.row.specs.Memory.{lines_in, tags_of}
 use Rattle.row.specs.declared.Line.{Line}
 use Rattle.row.specs.Row.{row_in}
-use Rattle.sheet.specs.declared.Answer.{Answer}
+use Rattle.sheet.specs.Reading.{Answer}
 use Rattle.sheet.specs.Numbers.{sheet_room}
 use Rattle.sheet.specs.Text.{Fits}
 

@@ -1,33 +1,31 @@
 -- "Read a sheet (gives N)" of document 01, from the bytes: first line, then row by row, last the count. What must be believed.
 -- Assumes nothing.
-use Rattle.std.specs.Prelude.{not, cond, List, [], ◌∷◌, ℕ, zero, suc, ◌+◌, ◌*◌, length, get_or, take, drop, ltb, eqb}
+use Rattle.std.specs.Prelude.{not, cond, List, [], ◌∷◌, ℕ, zero, suc, ◌+◌, ◌*◌, length, get_or, take, drop, ltb, eqb, Option, Some, None}
 use Rattle.rules.specs.Numbers.{most_consequents, most_rows}
 use Rattle.sheet.specs.Numbers.{first_line_malformed, over_limits, wrong_length, row_malformed}
 use Rattle.columns.specs.Number.{field_at}
-use Rattle.columns.specs.declared.Field.{Field}
-use Rattle.columns.specs.declared.Field.TheVariants.{Value, Bad}
 use Rattle.scenario.specs.Rows.{Row}
 use Rattle.scenario.specs.Sheet.{Sheet, count}
 use Rattle.row.specs.declared.Line.{Line}
 use Rattle.rules.specs.declared.Stand.{Stand}
-use Rattle.sheet.specs.declared.Head.{Head}
-use Rattle.sheet.specs.declared.Answer.{Answer}
-use Rattle.sheet.specs.declared.SheetCount.{SheetCount}
-use Rattle.row.specs.declared.Parsed.{Parsed}
-use Rattle.row.specs.declared.Parsed.TheVariants.{Row as Parsed·row, Malformed}
 use Rattle.row.specs.Row.{line_of, row_in}
 use Rattle.rules.specs.Rules.{start, enter, advance, refusal}
 
 -- First line
 
--- what the first line gives: the refusal or 0, k and the row count
+-- What the first line gives: the refusal 1 to 3 or 0, the consequents and the row count.
+pub record Head : Type 0 where
+  pub refusal : ℕ
+  pub k : ℕ
+  pub rows : ℕ
+
 abbrev pub headed : (refusal k rows : ℕ) → Head
 headed refusal k rows = record { refusal = refusal; k = k; rows = rows }
 
 -- goes on with a field's value; a bad field is 1
-abbrev pub on_head : Field → (ℕ → Head) → Head
-on_head (Value v) f = f v
-on_head Bad f = headed first_line_malformed 0 0
+abbrev pub on_head : Option ℕ → (ℕ → Head) → Head
+on_head (Some v) f = f v
+on_head None f = headed first_line_malformed 0 0
 
 -- "1 first line short or malformed; 2 k over 6 or row count over 176; 3 length is not 7 + 35 × rows"
 unfoldable pub head_of : List ℕ → Head
@@ -55,9 +53,9 @@ stop number row = record { number = number; row = row; lines = [] }
 abbrev pub more : Line → Taken → Taken
 more l t = record { number = t.number; row = t.row; lines = l ∷ t.lines }
 
-abbrev pub on_line : Parsed → Taken → (Line → Taken) → Taken
-on_line (Parsed·row l) t f = f l
-on_line Malformed t f = t
+abbrev pub on_line : Option Line → Taken → (Line → Taken) → Taken
+on_line (Some l) t f = f l
+on_line None t f = t
 
 -- where the reading stands after an accepted row
 unfoldable pub after : Stand → Line → Stand
@@ -95,6 +93,19 @@ sheet_of k ls = record { antecedent = section 0 ls; consequents = sections 1 k l
 -- the rows that the memory gets: those accepted, also where a later one is refused
 unfoldable pub taken : List ℕ → Taken
 taken s = cond (eqb (head_of s).refusal 0) (rows_from (head_of s).k s 0 (head_of s).rows start) (stop (head_of s).refusal 0)
+
+-- What reading gives: the refusal and the row that it is about (0: the first line), or the consequents, the row count and N.
+pub record Answer : Type 0 where
+  pub refusal : ℕ
+  pub row : ℕ
+  pub k : ℕ
+  pub rows : ℕ
+  pub count : ℕ
+
+-- What "Read a sheet" gives: the refusal's number alone, or 0 and N.
+pub record SheetCount : Type 0 where
+  pub refusal : ℕ
+  pub count : ℕ
 
 abbrev pub refused : (number row : ℕ) → Answer
 refused number row = record { refusal = number; row = row; k = 0; rows = 0; count = 0 }

@@ -36,10 +36,8 @@ fn write_rows(buf: &mut [u8], rows: &[u32], n: usize)
     requires { (7 + 35 * n ≤ length buf.old) × (n ≤ 200) × (6 * n ≤ length rows.now) × All Fits (lines_in rows.now 0 n) }
     ensures { buf.new ≡ inked 7 (rows_text (lines_in rows.now 0 n)) buf.old }
 {
-    let mut i: usize = 0;
-    while i < n {
+    for i in 0..n {
         write_row(buf, 7 + 35 * i, row::line_at(rows, i));
-        i += 1;
     }
 }
 

@@ -18,14 +18,14 @@ use Rattle.scenario.proofs.Numbers.{any-kind}
 use Rattle.scenario.proofs.Halves.{set_of_lower}
 use Rattle.scenario.proofs.Before.{fields-same, count_same, matching-same, search_same}
 use Rattle.row.specs.declared.Line.{Line}
-use Rattle.sheet.specs.declared.Answer.{Answer}
+use Rattle.sheet.specs.Reading.{Answer}
 use Rattle.row.specs.Row.{six, row_in}
 use Rattle.sheet.specs.Reading.{answer, taken, sheet_in}
 use Rattle.sheet.specs.Text.{Fits, numbers_of, sheet_text}
 use Rattle.sheet.specs.Valid.{rows_of, sections_of, sheet_from, rows_spelt}
 use Rattle.sheet.proofs.Theorems.{tag, accepted-rows}
 use Rattle.sheet.proofs.Valid.{valid-read, read-valid, read-text}
-use Rattle.runlog.specs.declared.Answer.{Answer as LogAnswer}
+use Rattle.runlog.specs.Log.{Answer as LogAnswer}
 use Rattle.runlog.specs.Log.{answer as log-answer, log_of}
 use Rattle.runlog.proofs.Theorems.{accepted-text, one-text}
 use Rattle.verdict.specs.Check.{check_of, verdict_of}

@@ -28,7 +28,7 @@ use Rattle.runlog.specs.Log.{run_in, log_of, answer as log-answer}
 use Rattle.runlog.proofs.Whole.{accepted-log}
 use Rattle.placing.specs.Matching.{is_found}
 use Rattle.search.specs.Searching.{filled, SaysNone, search_of, searched, Searched}
-use Rattle.verdict.specs.declared.Checked.{Checked}
+use Rattle.verdict.specs.Check.{Checked}
 use Rattle.verdict.specs.Check.{Accepted, front, violated_at, placement_in, rows_in, verdict_of, check_of}
 use Rattle.verdict.specs.Demands.{Denied, Unmatched, Enough, Finds, DemandThree}
 use Rattle.antiscenario.specs.Judge.{refusal_of}

@@ -22,7 +22,7 @@ use Rattle.sheet.proofs.Theorems.{accepted-sheet}
 use Rattle.runlog.specs.Log.{run_in, answer as log-answer}
 use Rattle.runlog.proofs.Whole.{answer-few}
 use Rattle.runlog.proofs.Theorems.{accepted-text}
-use Rattle.verdict.specs.declared.Checked.{Checked}
+use Rattle.verdict.specs.Check.{Checked}
 use Rattle.verdict.specs.Check.{blank, front, violated_at, placement_in, rows_in, verdict_of, check_of}
 use Rattle.consequent.proofs.Walk.{faults-length}
 use Rattle.sheet.proofs.Bound.{sheet-refusal-low}

@@ -13,7 +13,7 @@ use Rattle.sheet.specs.Held.{sheet_at}
 use Rattle.pair.specs.Pair.{refusal_of, PairHeld}
 use Rattle.pair.proofs.Reading.{refused-is, accepted-is}
 use Rattle.search.specs.Searching.{search_of}
-use Rattle.verdict.specs.declared.Checked.{Checked}
+use Rattle.verdict.specs.Check.{Checked}
 use Rattle.verdict.specs.Check.{verdict_of, blank, check_of, Accepted}
 use Rattle.verdict.specs.Demands.{DemandThree}
 use Rattle.verdict.proofs.DemandThree.{demand-bytes}

@@ -1,17 +1,25 @@
 -- Check: the sheet's refusals, then the log's; else holds, or violated with the smallest violating placement and the rows at fault. What must be believed.
 -- Assumes nothing.
-use Rattle.std.specs.Prelude.{◌≡◌, true, false, not, cond, List, ◌++◌, ℕ, length, take, drop, replicate, eqb}
+use Rattle.std.specs.Prelude.{◌≡◌, Bool, true, false, not, cond, List, ◌++◌, ℕ, length, take, drop, replicate, eqb}
 use Rattle.scenario.specs.Rows.{Run}
 use Rattle.scenario.specs.Sheet.{Sheet, Answer, nothing, found}
 use Rattle.scenario.specs.Search.{check, faults}
 use Rattle.sheet.specs.Reading.{sheet_in, answer as sheet-answer}
 use Rattle.runlog.specs.Log.{run_in, answer as log-answer}
-use Rattle.verdict.specs.declared.Checked.{Checked}
 
 -- document 01: a sheet or log is accepted when reading it gives no refusal
 pub record Accepted (s l : List ℕ) : Type 0 where
   pub sheet : (sheet-answer s).refusal ≡ 0
   pub log : (log-answer l).refusal ≡ 0
+
+-- What the check says: the refusal, or 0. Where violated: the positions of the antecedent's points and the rows at fault, one to a consequent.
+pub record Checked : Type 0 where
+  pub refusal : ℕ
+  pub violated : Bool
+  pub points : ℕ
+  pub consequents : ℕ
+  pub positions : List ℕ
+  pub rows : List ℕ
 
 -- An answer's values for each of the paper's cases
 

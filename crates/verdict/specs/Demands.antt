@@ -7,7 +7,7 @@ use Rattle.scenario.specs.Search.{RowsAtFault}
 use Rattle.sheet.specs.Reading.{count_in, sheet_in}
 use Rattle.runlog.specs.Log.{run_in}
 use Rattle.search.specs.Searching.{SaysNone, Searched}
-use Rattle.verdict.specs.declared.Checked.{Checked}
+use Rattle.verdict.specs.Check.{Checked}
 use Rattle.verdict.specs.Check.{placement_in, rows_in}
 
 -- some antiscenario, of the numbers 1 to N as reading reports it, has a matching that, cut down to the antecedent's points, is xs

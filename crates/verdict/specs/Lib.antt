@@ -4,3 +4,4 @@ pub mod Unmoved
 pub mod Demands
 pub mod Long
 pub mod Memory
+pub mod Numbered

@@ -6,7 +6,7 @@ use Rattle.scenario.specs.Sheet.{matching, cut, choices, total, antiscenario, no
 use Rattle.scenario.specs.Long.{long_end, antiscenario_long, DeniedLong}
 use Rattle.sheet.specs.Reading.{count_in, sheet_in}
 use Rattle.runlog.specs.Log.{run_in}
-use Rattle.verdict.specs.declared.Checked.{Checked}
+use Rattle.verdict.specs.Check.{Checked}
 use Rattle.verdict.specs.Check.{placement_in}
 use Rattle.verdict.specs.Demands.{Denied}
 

@@ -1,41 +1,34 @@
 -- `load_antiscenario` meets its contract: each refusal is the definition's, and what is left in memory is the antiscenario and the log.
-use mathlib.Core.Path.{◌∙◌}
+use mathlib.Core.Path.{refl}
 use lib.ListN.{replicate}
-use Rattle.runlog.specs.Held.{Loaded}
-use Rattle.sheet.specs.Held.{SheetLoaded}
+use Rattle.std.proofs.lemmas.Result.{err_from_is_err_and, IfOk-weaker}
+use Rattle.refusal.proofs.Numbers.{sheet_refused, log_refused}
 use Rattle.sheet.proofs.Held.{sheet_loaded, room_1056}
 use Rattle.antiscenario.proofs.InMemory.{held_of_text}
 use Rattle.antiscenario.proofs.Judging.{sheet-refused, log-refused, number-answered, ready}
 use Rattle.antiscenario.proofs.load_antiscenario.Goals as goal
-use Rattle.antiscenario.proofs.load_antiscenario.Goals.{Else-log_read-ne0, Else-read-ne0}
 
--- The sheet is accepted
-sheet-there : (c : Else-read-ne0) → SheetLoaded c.load_sheet-read.new.rows c.load_sheet-read.result
-sheet-there c =
-    sheet_loaded c.args.sheet.now c.load_sheet-read.result c.load_sheet-read.ensures.answers c.if-read-ne0.false c.load_sheet-read.new.rows (replicate 1056 0) room_1056 c.load_sheet-read.ensures.memory
+pub returns-in_err-extent-clause-refusal : goal.returns-in_err-extent-clause-refusal
+returns-in_err-extent-clause-refusal c =
+    let p = err_from_is_err_and c.from_residual.result c.from_residual.ensures.1 in
+    rw (p.1, p.2) (sheet-refused c.args.sheet.now c.args.log.now c.args.number _ c.in_err-extent.ensures.answers (sheet_refused _))
 
--- and so is the log
-log-there : (c : Else-log_read-ne0) → Loaded c.args.log.now c.load_log-log_read.new.run
-log-there c = c.load_log-log_read.ensures.run c.if-log_read-ne0.false
-
-pub returns-then-read-ne0-clause-refusal : goal.returns-then-read-ne0-clause-refusal
-returns-then-read-ne0-clause-refusal c =
-    c.not_loaded.ensures ∙ sheet-refused c.args.sheet.now c.args.log.now c.args.number c.load_sheet-read.result c.load_sheet-read.ensures.answers c.if-read-ne0.true
-
-pub returns-then-log_read-ne0-clause-refusal : goal.returns-then-log_read-ne0-clause-refusal
-returns-then-log_read-ne0-clause-refusal c =
-    c.not_loaded-then-log_read-ne0.ensures
-    ∙ log-refused c.args.sheet.now c.args.log.now c.args.number c.load_sheet-read.result c.load_sheet-read.ensures.answers c.if-read-ne0.false c.load_log-log_read.result c.load_log-log_read.ensures.answers c.if-log_read-ne0.true
+pub returns-in_err-load_log-clause-refusal : goal.returns-in_err-load_log-clause-refusal
+returns-in_err-load_log-clause-refusal c =
+    let p = err_from_is_err_and c.from_residual-in_err-load_log.result c.from_residual-in_err-load_log.ensures.1 in
+    rw (p.1, p.2) (log-refused c.args.sheet.now c.args.log.now c.args.number _ c.in_ok-extent.ensures.answers refl _ c.in_err-load_log.ensures.answers (log_refused _))
 
 pub load-requires : goal.load-requires
-load-requires c = (sheet-there (goal.at.load-requires c).Else-read-ne0, c.requires.0)
+load-requires c =
+    (sheet_loaded c.args.sheet.now _ c.in_ok-extent.ensures.answers refl c.load_sheet.new.rows (replicate 1056 0) room_1056 c.in_ok-extent.ensures.memory, c.requires.0)
 
 pub returns-clause-refusal : goal.returns-clause-refusal
 returns-clause-refusal c =
-    number-answered c.args.sheet.now c.args.log.now c.args.number c.load_sheet-read.result c.load_sheet-read.ensures.answers c.if-read-ne0.false c.load_log-log_read.result c.load_log-log_read.ensures.answers c.if-log_read-ne0.false c.load.result.refusal c.load.ensures.refusal
+    number-answered c.args.sheet.now c.args.log.now c.args.number _ c.in_ok-extent.ensures.answers refl _ c.in_ok-load_log.ensures.answers refl _ c.load.ensures.refusal
 
 pub returns-clause-memory : goal.returns-clause-memory
 returns-clause-memory c =
-    λ z. ready c.args.log.now _ (log-there (goal.at.returns-clause-memory c).Else-log_read-ne0) c.args.sheet.now c.args.number _ c.load.result.rows
-    (held_of_text c.args.sheet.now c.load_sheet-read.result c.load_sheet-read.ensures.answers c.if-read-ne0.false c.load_sheet-read.new.rows (replicate 1056 0) room_1056 c.load_sheet-read.ensures.memory
-    c.args.number _ c.load.result.rows (c.load.ensures.memory z))
+    let e = c.in_ok-extent.ensures in
+    IfOk-weaker c.load.result _ _
+    (λ count A. ready c.args.log.now _ c.in_ok-load_log.ensures.run c.args.sheet.now c.args.number _ count (held_of_text c.args.sheet.now _ e.answers refl c.load_sheet.new.rows (replicate 1056 0) room_1056 e.memory c.args.number _ count A))
+    c.load.ensures.memory

@@ -1,31 +1,41 @@
 -- `load_text` meets its contract: the sheet is refused, or the number is, or the antiscenario is in memory.
-use mathlib.Core.Path.{◌∙◌}
+use mathlib.Core.Path.{refl}
 use lib.ListN.{replicate}
+use Rattle.std.proofs.lemmas.Result.{err_from_is_err_and}
+use Rattle.refusal.proofs.Numbers.{sheet_refused}
 use Rattle.sheet.specs.Held.{SheetLoaded}
+use Rattle.sheet.specs.Reading.{accepted}
 use Rattle.sheet.proofs.Held.{sheet_loaded, room_1056}
 use Rattle.antiscenario.proofs.InMemory.{held_of_text, few_consequents}
 use Rattle.antiscenario.proofs.Loading.{text-refused, number_of_text, text-held}
 use Rattle.antiscenario.proofs.load_text.Goals as goal
-use Rattle.antiscenario.proofs.load_text.Goals.{Else-read-ne0}
+use Rattle.antiscenario.proofs.load_text.Goals.{In_ok-extent}
 
 -- The sheet is accepted
-sheet-there : (c : Else-read-ne0) → SheetLoaded c.load_sheet-read.new.rows c.load_sheet-read.result
+sheet-there : (c : In_ok-extent) → SheetLoaded c.load_sheet.new.rows (accepted c.in_ok-extent.extent.k c.in_ok-extent.extent.rows c.in_ok-extent.extent.count)
 sheet-there c =
-    sheet_loaded c.args.sheet.now c.load_sheet-read.result c.load_sheet-read.ensures.answers c.if-read-ne0.false c.load_sheet-read.new.rows (replicate 1056 0) room_1056 c.load_sheet-read.ensures.memory
+    sheet_loaded c.args.sheet.now _ c.in_ok-extent.ensures.answers refl c.load_sheet.new.rows (replicate 1056 0) room_1056 c.in_ok-extent.ensures.memory
 
-pub returns-then-read-ne0-clause-refusal : goal.returns-then-read-ne0-clause-refusal
-returns-then-read-ne0-clause-refusal c =
-    c.no_rows.ensures ∙ text-refused c.args.sheet.now c.args.number c.load_sheet-read.result c.load_sheet-read.ensures.answers c.if-read-ne0.true
+pub returns-in_err-extent-clause-refusal : goal.returns-in_err-extent-clause-refusal
+returns-in_err-extent-clause-refusal c =
+    let p = err_from_is_err_and c.from_residual.result c.from_residual.ensures.1 in
+    rw (p.1, p.2) (text-refused c.args.sheet.now c.args.number _ c.in_err-extent.ensures.answers (sheet_refused _))
 
-pub load-loaded-requires : goal.load-loaded-requires
-load-loaded-requires c = (sheet-there (goal.at.load-loaded-requires c).Else-read-ne0, c.requires)
+pub load-requires : goal.load-requires
+load-requires c = (sheet-there (goal.at.load-requires c).In_ok-extent, c.requires)
+
+pub returns-in_err-count-clause-refusal : goal.returns-in_err-count-clause-refusal
+returns-in_err-count-clause-refusal c =
+    let p = err_from_is_err_and c.from_residual-in_err-count.result c.from_residual-in_err-count.ensures.1 in
+    rw (p.1, p.2) (number_of_text c.args.sheet.now c.args.number _ c.in_ok-extent.ensures.answers refl _ c.in_err-count.ensures.refusal)
 
 pub returns-clause-refusal : goal.returns-clause-refusal
 returns-clause-refusal c =
-    number_of_text c.args.sheet.now c.args.number c.load_sheet-read.result c.load_sheet-read.ensures.answers c.if-read-ne0.false c.load-loaded.result.refusal c.load-loaded.ensures.refusal
+    number_of_text c.args.sheet.now c.args.number _ c.in_ok-extent.ensures.answers refl _ c.in_ok-count.ensures.refusal
 
 pub returns-clause-memory : goal.returns-clause-memory
 returns-clause-memory c =
-    λ z. text-held c.args.sheet.now c.args.number c.load_sheet-read.result c.load_sheet-read.ensures.answers c.if-read-ne0.false c.load-loaded.result.refusal c.load-loaded.ensures.refusal _ c.load-loaded.result.rows (few_consequents _ c.load_sheet-read.result (sheet-there (goal.at.returns-clause-memory c).Else-read-ne0)) z
-    (held_of_text c.args.sheet.now c.load_sheet-read.result c.load_sheet-read.ensures.answers c.if-read-ne0.false c.load_sheet-read.new.rows (replicate 1056 0) room_1056 c.load_sheet-read.ensures.memory
-    c.args.number _ c.load-loaded.result.rows (c.load-loaded.ensures.memory z))
+    let e = c.in_ok-extent.ensures in
+    let n = c.in_ok-count.ensures in
+    text-held c.args.sheet.now c.args.number _ e.answers refl _ n.refusal _ c.in_ok-count.count (few_consequents _ _ (sheet-there (goal.at.returns-clause-memory c).In_ok-extent)) refl
+    (held_of_text c.args.sheet.now _ e.answers refl c.load_sheet.new.rows (replicate 1056 0) room_1056 e.memory c.args.number _ c.in_ok-count.count n.memory)

@@ -1,31 +1,32 @@
 -- `write_antiscenario` meets its contract: each refusal leaves the buffer, and what is written is the text of the rows that `load_text` stored.
-use mathlib.Core.Path.{◌∙◌}
 use native.Mathlib.Omega.{arith}
-use Rattle.antiscenario.specs.Held.{TextHeld}
+use Rattle.std.proofs.lemmas.Result.{err_from_is_err_and}
+use Rattle.refusal.proofs.Numbers.{is_refused}
 use Rattle.antiscenario.proofs.Writing.{not_written, too_short, done}
 use Rattle.antiscenario.proofs.write_antiscenario.Goals as goal
-use Rattle.antiscenario.proofs.write_antiscenario.Goals.{Else-loaded-ne0}
 
--- The antiscenario is there
-rows-there : (c : Else-loaded-ne0) → TextHeld c.args.sheet.now c.args.number c.load_text-loaded.new.out c.load_text-loaded.result.k c.load_text-loaded.result.rows
-rows-there c = c.load_text-loaded.ensures.memory c.if-loaded-ne0.false
+pub returns-in_err-stored-clause-answer : goal.returns-in_err-stored-clause-answer
+returns-in_err-stored-clause-answer c =
+    let p = err_from_is_err_and c.from_residual.result c.from_residual.ensures.1 in
+    rw (p.1, p.2) ((not_written c.args.sheet.now c.args.number _ c.in_err-stored.ensures.refusal c.args.buf.now (is_refused _)).0)
 
-pub returns-then-loaded-ne0 : goal.returns-then-loaded-ne0
-returns-then-loaded-ne0 c =
-    let w = not_written c.args.sheet.now c.args.number c.load_text-loaded.result.refusal c.load_text-loaded.ensures.refusal c.args.buf.now c.if-loaded-ne0.true in
-    record { answers = c.no_text.ensures ∙ w.0; memory = w.1 }
+pub returns-in_err-stored-clause-memory : goal.returns-in_err-stored-clause-memory
+returns-in_err-stored-clause-memory c =
+    (not_written c.args.sheet.now c.args.number _ c.in_err-stored.ensures.refusal c.args.buf.now (is_refused _)).1
 
 pub returns-then-buf-size : goal.returns-then-buf-size
 returns-then-buf-size c =
-    let w = too_short c.args.sheet.now c.args.number c.load_text-loaded.result.refusal c.load_text-loaded.ensures.refusal c.args.buf.now c.load_text-loaded.new.out c.load_text-loaded.result.k c.load_text-loaded.result.rows (rows-there (goal.at.returns-then-buf-size c).Else-loaded-ne0) c.if-buf-size.true in
-    record { answers = c.no_text-then-buf-size.ensures ∙ w.0; memory = w.1 }
+    let e = c.in_ok-stored.ensures in
+    let w = too_short c.args.sheet.now c.args.number _ e.refusal c.args.buf.now _ _ _ e.memory c.if-buf-size.true in
+    record { answer = w.0; memory = w.1 }
 
 pub write_text-requires : goal.write_text-requires
 write_text-requires c =
-    let H = rows-there (goal.at.write_text-requires c).Else-loaded-ne0 in
+    let H = c.in_ok-stored.ensures.memory in
     (c.if-buf-size.false, omega (arith, H.rows_held.few), H.rows_held.room, omega (arith, H.few_consequents), H.rows_held.columns)
 
 pub returns : goal.returns
 returns c =
-    let w = done c.args.sheet.now c.args.number c.load_text-loaded.result.refusal c.load_text-loaded.ensures.refusal c.args.buf.now c.load_text-loaded.new.out c.load_text-loaded.result.k c.load_text-loaded.result.rows (rows-there (goal.at.returns c).Else-loaded-ne0) c.write_text.new.buf c.if-buf-size.false c.write_text.ensures in
-    record { answers = w.0; memory = w.1 }
+    let e = c.in_ok-stored.ensures in
+    let w = done c.args.sheet.now c.args.number _ e.refusal c.args.buf.now _ _ _ e.memory c.write_text.new.buf c.if-buf-size.false c.write_text.ensures in
+    record { answer = w.0; memory = w.1 }

@@ -1,16 +1,17 @@
 -- `check` meets its contract.
-use mathlib.Core.Path.{sym, ap, ◌∙◌}
+use mathlib.Core.Path.{refl, sym, ap, ◌∙◌}
+use Rattle.refusal.proofs.Numbers.{is_refused}
+use Rattle.verdict.specs.Numbered.{told, violated}
+use Rattle.verdict.specs.Check.{blank}
 use Rattle.findings.specs.Findings.{host_number}
 use Rattle.findings.proofs.Telling.{number-refused, number-violated, number-holds}
 use Rattle.bench.proofs.check.Goals as goal
 
-pub returns-then-c-ne0 : goal.returns-then-c-ne0
-returns-then-c-ne0 c = sym (number-refused c.check-c.result c.if-c-ne0.true) ∙ ap host_number c.check-c.ensures.answer
+pub returns-in-Err : goal.returns-in-Err
+returns-in-Err c = c.number.ensures ∙ sym (number-refused (blank _) (is_refused _)) ∙ ap host_number c.in-Err.ensures.answer
 
-pub returns-then-c : goal.returns-then-c
-returns-then-c c =
-    sym (number-violated c.check-c.result c.if-c-ne0.false c.if-c.true) ∙ ap host_number c.check-c.ensures.answer
+pub returns-in-Some : goal.returns-in-Some
+returns-in-Some c = sym (number-violated (violated _) refl refl) ∙ ap host_number (ap told (sym c.in-Some.is) ∙ c.in-Ok.ensures.answer)
 
-pub returns : goal.returns
-returns c =
-    sym (number-holds c.check-c.result c.if-c-ne0.false c.if-c.false) ∙ ap host_number c.check-c.ensures.answer
+pub returns-in-None : goal.returns-in-None
+returns-in-None c = sym (number-holds (blank 0) refl refl) ∙ ap host_number (ap told (sym c.in-None.is) ∙ c.in-Ok.ensures.answer)

@@ -1,60 +1,44 @@
--- The check's part is told as the check's answer is; how far it came is written unless it is refused.
-use mathlib.Core.Path.{◌≡◌, ap, ◌∙◌}
-use Rattle.verdict.specs.declared.Checked.{Checked}
-use Rattle.limit.specs.declared.Limited.{Limited}
-use Rattle.limit.specs.Limit.{limited_of}
-use Rattle.limit.proofs.Few as own
+-- How far the check came is written unless it is refused; where it is violated its findings are told as the check's are.
+use mathlib.Core.Path.{◌≡◌, refl, sym, ap, ◌∙◌}
+use Rattle.refusal.proofs.Numbers.{is_refused}
+use Rattle.verdict.specs.Check.{blank}
+use Rattle.limit.specs.Limit.{Limited, limited_of, unlooked}
+use Rattle.limit.specs.Numbered.{end_of}
+use Rattle.limit.specs.declared.End.{End}
+use Rattle.limit.specs.declared.End.TheVariants.{Holds, Violated, Stopped}
+use Rattle.limit.proofs.Few.{limited-few}
+use Rattle.findings.proofs.Telling.{number-refused, number-holds, unviolated_keeps}
 use Rattle.bench.specs.Host.{limited_number}
-use Rattle.findings.proofs.Telling.{told_same}
-use Rattle.bench.proofs.Numbers.{limited-stopped, limited_ended, limited-refused, refused_unviolated, refused-keeps, limited-written}
+use Rattle.bench.proofs.Numbers.{limited-stopped, limited_ended, limited-written, refused-keeps, told_nothing}
 use Rattle.bench.proofs.satskhubo_check_limited.Goals as goal
-use Rattle.bench.proofs.satskhubo_check_limited.Goals.{After-check_limited-c, After-tell-number}
+use Rattle.bench.proofs.satskhubo_check_limited.Goals.{In-Ok}
 
--- The check with a limit has answered.
-module _ (x : After-check_limited-c) where
-  abbrev r : Limited
-  r = x.check_limited-c.result
-
-  abbrev asked : Limited
-  asked = limited_of x.args.sheet.now x.args.log.now x.args.limit
-
-  same : r ≡ asked
-  same = x.check_limited-c.ensures.answer
-
-  checked-same : r.checked ≡ asked.checked
-  checked-same = ap (λ (z : Limited). z.checked) same
-
-pub tell-number-requires : goal.tell-number-requires
-tell-number-requires c =
-    let a = c.args in
-    let f = own.limited-few a.sheet.now a.log.now a.limit (r (goal.at.tell-number-requires c).After-check_limited-c) (same (goal.at.tell-number-requires c).After-check_limited-c) in
-    (f.points, f.consequents, own.refused_unviolated a.sheet.now a.log.now a.limit (r (goal.at.tell-number-requires c).After-check_limited-c) (same (goal.at.tell-number-requires c).After-check_limited-c) (refused_unviolated a.sheet.now a.log.now))
-
-pub returns-then-checked-ne0 : goal.returns-then-checked-ne0
-returns-then-checked-ne0 c =
-    let x = (goal.at.returns-then-checked-ne0 c).After-check_limited-c in
-    let a = c.args in
-    let n = c.if-checked-ne0.true in
-    let e = c.tell-number.ensures in
-    let q = told_same (r x).checked (asked x).checked (checked-same x) _ _ _ _ _ _ _ _ _ (e.answer, (e.positions, (e.points, (e.rows, e.consequents)))) in
-    let refusal-same = ap (λ (z : Checked). z.refusal) (checked-same x) in
+pub returns-in-Err : goal.returns-in-Err
+returns-in-Err c =
+    let e = c.in-Err.ensures.answer in
+    let v = ap (λ (z : Limited). z.checked.violated) (sym e) in
+    let n = ap (λ (z : Limited). z.checked.refusal) e in
     record {
-      answer = e.answer ∙ limited-refused (r x) (own.stopped_unrefused a.sheet.now a.log.now a.limit (r x) (same x)) n ∙ ap limited_number (same x);
-      positions = q.1.0;
-      points = q.1.1.0;
-      rows = q.1.1.1.0;
-      consequents = q.1.1.1.1;
-      looked = (refused-keeps _ _ _ _ refusal-same n).1;
-      after = (refused-keeps _ _ _ _ refusal-same n).1;
+      answer = c.number.ensures ∙ sym (number-refused (blank _) (is_refused _)) ∙ limited_ended (unlooked _) refl ∙ ap limited_number e;
+      positions = unviolated_keeps _ _ _ v;
+      points = unviolated_keeps _ _ _ v;
+      rows = unviolated_keeps _ _ _ v;
+      consequents = unviolated_keeps _ _ _ v;
+      looked = (refused-keeps _ _ _ _ n (is_refused c.in-Err.refusal)).1;
+      after = (refused-keeps _ _ _ _ n (is_refused c.in-Err.refusal)).1;
     }
 
-pub returns-then-c : goal.returns-then-c
-returns-then-c c =
-    let x = (goal.at.returns-then-c c).After-check_limited-c in
-    let e = c.tell-number.ensures in
-    let q = limited-written (r x) (asked x) (same x) c.if-checked-ne0.false _ _ _ _ _ _ _ _ _ _ _ (e.answer, (e.positions, (e.points, (e.rows, e.consequents)))) in
+-- what is known of the answer, by the way it ends
+ended : (c : In-Ok) (e : End) → c.in-Ok.limited.end ≡ e → end_of e c.in-Ok.limited.looked c.in-Ok.limited.after ≡ limited_of c.args.sheet.now c.args.log.now c.args.limit
+ended c e is = ap (λ (z : End). end_of z c.in-Ok.limited.looked c.in-Ok.limited.after) (sym is) ∙ c.in-Ok.ensures.answer
+
+pub returns-in-Holds : goal.returns-in-Holds
+returns-in-Holds c =
+    let e = ended (goal.at.returns-in-Holds c).In-Ok Holds c.in-Holds.is in
+    let z = sym (number-holds (blank 0) refl refl) in
+    let q = limited-written _ _ e refl _ _ _ _ _ _ _ _ _ c.args.looked.now c.args.after.now (told_nothing (blank 0) 0 z refl c.args.positions.now c.args.points.now c.args.rows.now c.args.consequents.now) in
     record {
-      answer = limited-stopped (r x) c.if-c.true ∙ ap limited_number (same x);
+      answer = z ∙ limited_ended (end_of Holds _ _) refl ∙ ap limited_number e;
       positions = q.0;
       points = q.1.0;
       rows = q.1.1.0;
@@ -63,13 +47,33 @@ returns-then-c c =
       after = q.1.1.1.1.1;
     }
 
-pub returns : goal.returns
-returns c =
-    let x = (goal.at.returns c).After-check_limited-c in
-    let e = c.tell-number.ensures in
-    let q = limited-written (r x) (asked x) (same x) c.if-checked-ne0.false _ _ _ _ _ _ _ _ _ _ _ (e.answer, (e.positions, (e.points, (e.rows, e.consequents)))) in
+pub returns-in-Stopped : goal.returns-in-Stopped
+returns-in-Stopped c =
+    let e = ended (goal.at.returns-in-Stopped c).In-Ok Stopped c.in-Stopped.is in
+    let z = sym (number-holds (blank 0) refl refl) in
+    let q = limited-written _ _ e refl _ _ _ _ _ _ _ _ _ c.args.looked.now c.args.after.now (told_nothing (blank 0) 0 z refl c.args.positions.now c.args.points.now c.args.rows.now c.args.consequents.now) in
     record {
-      answer = e.answer ∙ limited_ended (r x) c.if-c.false ∙ ap limited_number (same x);
+      answer = limited-stopped (end_of Stopped _ _) refl ∙ ap limited_number e;
+      positions = q.0;
+      points = q.1.0;
+      rows = q.1.1.0;
+      consequents = q.1.1.1.0;
+      looked = q.1.1.1.1.0;
+      after = q.1.1.1.1.1;
+    }
+
+pub tell-requires : goal.tell-requires
+tell-requires c =
+    let e = ended (goal.at.tell-requires c).In-Ok (Violated c.in-Violated.violation) c.in-Violated.is in
+    let f = limited-few c.args.sheet.now c.args.log.now c.args.limit _ e in (f.points, f.consequents)
+
+pub returns-in-Violated : goal.returns-in-Violated
+returns-in-Violated c =
+    let e = ended (goal.at.returns-in-Violated c).In-Ok (Violated c.in-Violated.violation) c.in-Violated.is in
+    let t = c.tell.ensures in
+    let q = limited-written _ _ e refl _ _ _ _ _ _ _ _ _ c.args.looked.now c.args.after.now (t.answer, (t.positions, (t.points, (t.rows, t.consequents)))) in
+    record {
+      answer = t.answer ∙ limited_ended (end_of (Violated c.in-Violated.violation) _ _) refl ∙ ap limited_number e;
       positions = q.0;
       points = q.1.0;
       rows = q.1.1.0;

@@ -1,13 +1,16 @@
 -- `satskhubo_impossible` meets its contract: the answer is the operation's, and its refusal keeps what was lent.
-use mathlib.Core.Path.{ap}
-use Rattle.ruling.specs.declared.Ruled.{Ruled}
-use Rattle.bench.proofs.Numbers.{refused-keeps, answered_writes}
+use mathlib.Core.Path.{refl, ap, ◌∙◌}
+use Rattle.ruling.specs.Ruling.{Ruled}
+use Rattle.ruling.specs.Ruling.{numbered}
+use Rattle.bench.specs.Host.{unless_refused}
+use Rattle.bench.proofs.Numbers.{stored}
 use Rattle.bench.proofs.satskhubo_impossible.Goals as goal
-
-pub returns-then-ruled-ne0 : goal.returns-then-ruled-ne0
-returns-then-ruled-ne0 c =
-    let told = refused-keeps c.is_impossible-ruled.result.refusal _ _ _ (ap (λ (z : Ruled). z.refusal) c.is_impossible-ruled.ensures.answer) c.if-ruled-ne0.true in record { answer = told.0; memory = told.1 }
 
 pub returns : goal.returns
 returns c =
-    let told = answered_writes c.is_impossible-ruled.result.refusal _ _ _ _ (ap (λ (z : Ruled). z.refusal) c.is_impossible-ruled.ensures.answer) c.if-ruled-ne0.false (ap (λ (z : Ruled). z.impossible) c.is_impossible-ruled.ensures.answer) in record { answer = told.0; memory = told.1 }
+    let e = c.is_impossible.ensures.answer in
+    let S = stored numbered (λ (z : Ruled). z.refusal) (λ (z : Ruled). z.impossible) (record { accepted = λ v. refl; found = λ v. refl; refused = λ r. refl }) c.is_impossible.result c.args.impossible.now in
+    record {
+      answer = c.store.ensures.answer ∙ S.0 ∙ ap (λ (z : Ruled). z.refusal) e;
+      memory = c.store.ensures.memory ∙ S.1 ∙ ap (λ (z : Ruled). unless_refused z.refusal z.impossible c.args.impossible.now) e;
+    }

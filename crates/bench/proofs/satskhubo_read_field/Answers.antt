@@ -9,4 +9,4 @@ returns-in_default c =
 
 pub returns : goal.returns
 returns c =
-    let told = good_field _ _ _ (sym c.number.ensures ∙ c.in-Value.is) in record { answer = told.0; memory = told.1 }
+    let told = good_field _ _ _ (sym c.number.ensures ∙ c.in-Some.is) in record { answer = told.0; memory = told.1 }

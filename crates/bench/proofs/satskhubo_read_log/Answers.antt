@@ -1,13 +1,16 @@
 -- `satskhubo_read_log` meets its contract: the answer is the operation's, and its refusal keeps what was lent.
-use mathlib.Core.Path.{ap}
-use Rattle.runlog.specs.declared.LogRead.{LogRead}
-use Rattle.bench.proofs.Numbers.{refused-keeps, answered_writes}
+use mathlib.Core.Path.{refl, ap, ◌∙◌}
+use Rattle.runlog.specs.Log.{LogRead}
+use Rattle.runlog.specs.Numbered.{numbered_lines}
+use Rattle.bench.specs.Host.{unless_refused}
+use Rattle.bench.proofs.Numbers.{stored}
 use Rattle.bench.proofs.satskhubo_read_log.Goals as goal
-
-pub returns-then-read-ne0 : goal.returns-then-read-ne0
-returns-then-read-ne0 c =
-    let x = c.read_log-read in let told = refused-keeps x.result.refusal _ _ _ (ap (λ (z : LogRead). z.refusal) x.ensures) c.if-read-ne0.true in record { answer = told.0; memory = told.1 }
 
 pub returns : goal.returns
 returns c =
-    let x = c.read_log-read in let told = answered_writes x.result.refusal _ _ _ _ (ap (λ (z : LogRead). z.refusal) x.ensures) c.if-read-ne0.false (ap (λ (z : LogRead). z.lines) x.ensures) in record { answer = told.0; memory = told.1 }
+    let e = c.read_log.ensures in
+    let S = stored numbered_lines (λ (z : LogRead). z.refusal) (λ (z : LogRead). z.lines) (record { accepted = λ v. refl; found = λ v. refl; refused = λ r. refl }) c.read_log.result c.args.lines.now in
+    record {
+      answer = c.store.ensures.answer ∙ S.0 ∙ ap (λ (z : LogRead). z.refusal) e;
+      memory = c.store.ensures.memory ∙ S.1 ∙ ap (λ (z : LogRead). unless_refused z.refusal z.lines c.args.lines.now) e;
+    }

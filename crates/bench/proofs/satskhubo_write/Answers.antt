@@ -1,13 +1,17 @@
--- `satskhubo_write` meets its contract: the answer and the buffer are the operation's, and its refusal keeps what was lent.
-use mathlib.Core.Path.{ap}
-use Rattle.antiscenario.specs.declared.Written.{Written}
-use Rattle.bench.proofs.Numbers.{refused-keeps, answered_writes}
+-- `satskhubo_write` meets its contract: the answer is the operation's, and its refusal keeps what was lent.
+use mathlib.Core.Path.{refl, ap, ◌∙◌}
+use Rattle.antiscenario.specs.Write.{Written}
+use Rattle.antiscenario.specs.Numbered.{numbered_write}
+use Rattle.bench.specs.Host.{unless_refused}
+use Rattle.bench.proofs.Numbers.{stored}
 use Rattle.bench.proofs.satskhubo_write.Goals as goal
-
-pub returns-then-written-ne0 : goal.returns-then-written-ne0
-returns-then-written-ne0 c =
-    let k = refused-keeps c.write_antiscenario-written.result.refusal _ _ _ (ap (λ (z : Written). z.refusal) c.write_antiscenario-written.ensures.answers) c.if-written-ne0.true in record { answer = k.0; buffer = c.write_antiscenario-written.ensures.memory; size = k.1 }
 
 pub returns : goal.returns
 returns c =
-    let k = answered_writes c.write_antiscenario-written.result.refusal _ _ _ _ (ap (λ (z : Written). z.refusal) c.write_antiscenario-written.ensures.answers) c.if-written-ne0.false (ap (λ (z : Written). z.length) c.write_antiscenario-written.ensures.answers) in record { answer = k.0; buffer = c.write_antiscenario-written.ensures.memory; size = k.1 }
+    let e = c.write_antiscenario-written.ensures.answer in
+    let S = stored numbered_write (λ (z : Written). z.refusal) (λ (z : Written). z.length) (record { accepted = λ v. refl; found = λ v. refl; refused = λ r. refl }) c.write_antiscenario-written.result c.args.size.now in
+    record {
+      answer = c.store.ensures.answer ∙ S.0 ∙ ap (λ (z : Written). z.refusal) e;
+      buffer = c.write_antiscenario-written.ensures.memory;
+      size = c.store.ensures.memory ∙ S.1 ∙ ap (λ (z : Written). unless_refused z.refusal z.length c.args.size.now) e;
+    }

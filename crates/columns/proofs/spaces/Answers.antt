@@ -1,16 +1,17 @@
--- `spaces` meets its contract: the spaces before i are gone from what is left.
+-- `spaces` meets its contract: what is found is how many spaces there are.
 use borrow.Author.Rules.{rules}
-use mathlib.Core.Path.{sym, ◌∙◌}
-use Rattle.columns.proofs.Scan.{space_on, space_stop, space_end}
+use borrow.Author.Tests.{tests}
+use mathlib.Core.Path.{◌≡◌, ◌∙◌}
+use mathlib.Core.Bool.{not}
+use lib.Dec.{eqb}
+use Rattle.std.proofs.lemmas.Iterator.{YieldsList-from_slice}
+use Rattle.std.proofs.lemmas.Iterator.Search.{position_from_yields_List}
+use Rattle.columns.proofs.Scan.{gap, gap_passed, gap_found}
 use Rattle.columns.proofs.spaces.Goals as goal
 
-pub returns-then-s-i-ne-SPACE : goal.returns-then-s-i-ne-SPACE
-returns-then-s-i-ne-SPACE c =
-    (search rules, space_stop c.args.s.now c.loop-i.i (search rules) c.if-s-i-ne-SPACE.true ∙ c.loop-i.invariant.1)
-
-pub loop-i-preserved : goal.loop-i-preserved
-loop-i-preserved c =
-    (search rules, sym (space_on c.args.s.now c.loop-i.i (search rules) c.if-s-i-ne-SPACE.false) ∙ c.loop-i.invariant.1)
-
 pub returns : goal.returns
-returns c = (search rules, space_end _ _ c.loop-i-test.false ∙ c.loop-i.invariant.1)
+returns c =
+    let s = c.args.s.now in
+    let found = position_from_yields_List (λ b. not (eqb b 32)) _ _ c.position.result c.position.ensures.ran (YieldsList-from_slice s cc) (λ x b q k. search (rules, tests)) in
+    let e : c.unwrap_or.result ≡ gap s = c.unwrap_or.ensures ∙ gap_found s c.position.result found in
+    rw e (gap_passed s)

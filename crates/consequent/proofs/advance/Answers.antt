@@ -1,28 +1,58 @@
 -- `advance` meets its contract: a law for each kind that places a point, and one for the tests.
+use borrow.Author.Rules.{rules}
 use Rattle.row.specs.Memory.{row_at}
 use Rattle.consequent.proofs.Advancing.{advanced_point, advanced_next, advanced_last, advanced_earlier, advanced_later, advanced_test}
 use Rattle.consequent.proofs.advance.Goals as goal
 
-pub returns-then-kind-eq1 : goal.returns-then-kind-eq1
-returns-then-kind-eq1 c =
-    let a = c.args in let r = c.row_at-row in let told = advanced_point a.run.now a.positions.now (row_at a.rows.now a.j) r.result.kind r.result.p r.result.q r.result.a r.result.b r.result.set c.at-y.result c.requires.0 r.ensures c.at-y.ensures c.if-kind-eq1.true in record { met = told.0; placed = told.1 }
+pub returns-in-1 : goal.returns-in-1
+returns-in-1 c =
+    let a = c.args in
+    let k = c.row_at-row.result in
+    let told =
+    advanced_point a.run.now.words a.positions.now (row_at a.rows.now a.j) k.kind k.p k.q k.a k.b k.set c.at-y.result c.args.run.now.held c.row_at-row.ensures c.at-y.ensures c.in-1.is in
+    record { met = told.0; placed = told.1 }
 
-pub returns-then-kind-eq2 : goal.returns-then-kind-eq2
-returns-then-kind-eq2 c =
-    let a = c.args in let r = c.row_at-row in let x = c.first_after in let told = advanced_next a.run.now a.positions.now (row_at a.rows.now a.j) r.result.kind r.result.p r.result.q r.result.a r.result.b r.result.set c.at-y.result c.requires.0 r.ensures c.at-y.ensures x.result c.put.result c.put.new.positions c.put.ensures.found c.put.ensures.placed c.if-kind-eq2.true x.ensures in record { met = told.0; placed = told.1 }
+pub returns-in-2 : goal.returns-in-2
+returns-in-2 c =
+    let a = c.args in
+    let k = c.row_at-row.result in
+    let told =
+    advanced_next a.run.now.words a.positions.now (row_at a.rows.now a.j) k.kind k.p k.q k.a k.b k.set c.at-y.result c.args.run.now.held c.row_at-row.ensures c.at-y.ensures
+    c.first_after.result c.put.result c.put.new.positions c.put.ensures.found c.put.ensures.placed c.in-2.is c.first_after.ensures in
+    record { met = told.0; placed = told.1 }
 
-pub returns-then-kind-eq3 : goal.returns-then-kind-eq3
-returns-then-kind-eq3 c =
-    let a = c.args in let r = c.row_at-row in let x = c.last_before in let told = advanced_last a.run.now a.positions.now (row_at a.rows.now a.j) r.result.kind r.result.p r.result.q r.result.a r.result.b r.result.set c.at-y.result c.requires.0 r.ensures c.at-y.ensures x.result c.put-then-kind-eq3.result c.put-then-kind-eq3.new.positions c.put-then-kind-eq3.ensures.found c.put-then-kind-eq3.ensures.placed c.if-kind-eq3.true x.ensures in record { met = told.0; placed = told.1 }
+pub returns-in-3 : goal.returns-in-3
+returns-in-3 c =
+    let a = c.args in
+    let k = c.row_at-row.result in
+    let told =
+    advanced_last a.run.now.words a.positions.now (row_at a.rows.now a.j) k.kind k.p k.q k.a k.b k.set c.at-y.result c.args.run.now.held c.row_at-row.ensures c.at-y.ensures
+    c.last_before.result c.put-in-3.result c.put-in-3.new.positions c.put-in-3.ensures.found c.put-in-3.ensures.placed c.in-3.is c.last_before.ensures in
+    record { met = told.0; placed = told.1 }
 
-pub returns-then-kind-eq4 : goal.returns-then-kind-eq4
-returns-then-kind-eq4 c =
-    let a = c.args in let r = c.row_at-row in let x = c.lower-x in let z = c.at in let told = advanced_earlier a.run.now a.positions.now (row_at a.rows.now a.j) r.result.kind r.result.p r.result.q r.result.a r.result.b r.result.set c.at-y.result c.requires.0 r.ensures c.at-y.ensures z.result x.result c.store.new.m z.ensures c.store.ensures c.if-kind-eq4.true x.ensures in record { met = told.0; placed = told.1 }
+pub returns-in-4 : goal.returns-in-4
+returns-in-4 c =
+    let a = c.args in
+    let k = c.row_at-row.result in
+    let told =
+    advanced_earlier a.run.now.words a.positions.now (row_at a.rows.now a.j) k.kind k.p k.q k.a k.b k.set c.at-y.result c.args.run.now.held c.row_at-row.ensures c.at-y.ensures
+    c.at.result c.min-x.result c.store.new.m c.at.ensures c.store.ensures c.in-4.is c.min-x.ensures in
+    record { met = told.0; placed = told.1 }
 
-pub returns-then-kind-eq5 : goal.returns-then-kind-eq5
-returns-then-kind-eq5 c =
-    let a = c.args in let r = c.row_at-row in let x = c.higher-x in let z = c.at-then-kind-eq5 in let told = advanced_later a.run.now a.positions.now (row_at a.rows.now a.j) r.result.kind r.result.p r.result.q r.result.a r.result.b r.result.set c.at-y.result c.requires.0 r.ensures c.at-y.ensures z.result x.result c.store-then-kind-eq5.new.m z.ensures c.store-then-kind-eq5.ensures c.if-kind-eq5.true x.ensures in record { met = told.0; placed = told.1 }
+pub returns-in-5 : goal.returns-in-5
+returns-in-5 c =
+    let a = c.args in
+    let k = c.row_at-row.result in
+    let told =
+    advanced_later a.run.now.words a.positions.now (row_at a.rows.now a.j) k.kind k.p k.q k.a k.b k.set c.at-y.result c.args.run.now.held c.row_at-row.ensures c.at-y.ensures
+    c.at-in-5.result c.max-x.result c.store-in-5.new.m c.at-in-5.ensures c.store-in-5.ensures c.in-5.is c.max-x.ensures in
+    record { met = told.0; placed = told.1 }
 
-pub returns : goal.returns
-returns c =
-    let a = c.args in let r = c.row_at-row in let told = advanced_test a.run.now a.positions.now (row_at a.rows.now a.j) r.result.kind r.result.p r.result.q r.result.a r.result.b r.result.set c.at-y.result c.requires.0 r.ensures c.at-y.ensures c.if-kind-eq1.false c.if-kind-eq2.false c.if-kind-eq3.false c.if-kind-eq4.false c.if-kind-eq5.false c.meets.result c.meets.ensures in record { met = told.0; placed = told.1 }
+pub returns-in_default : goal.returns-in_default
+returns-in_default c =
+    let a = c.args in
+    let k = c.row_at-row.result in
+    let told =
+    advanced_test a.run.now.words a.positions.now (row_at a.rows.now a.j) k.kind k.p k.q k.a k.b k.set c.at-y.result c.args.run.now.held c.row_at-row.ensures c.at-y.ensures
+    (search rules) (search rules) (search rules) (search rules) (search rules) c.meets.result c.meets.ensures in
+    record { met = told.0; placed = told.1 }

@@ -1,16 +1,19 @@
 -- `asking` meets its contract: kind by kind.
-use borrow.Author.Tests.{eq-eqb, ne_eqb, lt-ltb, le-ltb}
+use native.Mathlib.Omega.{arith}
+use borrow.Author.Tests.{eq-eqb}
 use Rattle.contradiction.specs.Table.{asking}
+use Rattle.contradiction.proofs.Parts.{asks, asks_not}
 use Rattle.contradiction.proofs.asking.Goals as goal
 
-pub returns-then-kind-eq-EVENT : goal.returns-then-kind-eq-EVENT
-unfolding asking
-returns-then-kind-eq-EVENT c = simp (eq-eqb _ _ c.if-kind-eq-EVENT.true)
+pub returns-in_default : goal.returns-in_default
+returns-in_default c = asks_not c.args.kind (λ e. omega arith) (λ l. omega arith)
 
-pub returns-then-kind-gt-LAST : goal.returns-then-kind-gt-LAST
-unfolding asking
-returns-then-kind-gt-LAST c = simp (ne_eqb _ _ c.if-kind-eq-EVENT.false, lt-ltb _ _ c.if-kind-gt-LAST.true)
+pub returns-in_default-2 : goal.returns-in_default-2
+returns-in_default-2 c = asks_not c.args.kind (λ e. omega arith) (λ l. omega arith)
 
-pub returns : goal.returns
+pub returns-in-1 : goal.returns-in-1
 unfolding asking
-returns c = simp (ne_eqb _ _ c.if-kind-eq-EVENT.false, le-ltb _ _ c.if-kind-gt-LAST.false)
+returns-in-1 c = simp (eq-eqb _ _ c.in-1.is)
+
+pub returns-in-1-2 : goal.returns-in-1-2
+returns-in-1-2 c = asks c.args.kind (omega arith) (omega arith)

@@ -1,13 +1,14 @@
 -- `place` meets its contract: by the point's number.
 use mathlib.Core.Path.{sym}
+use native.Mathlib.Omega.{arith}
 use Rattle.contradiction.proofs.Places.{place-front, place_inside, place-back}
 use Rattle.contradiction.proofs.place.Goals as goal
 
-pub returns-then-point-lt10 : goal.returns-then-point-lt10
-returns-then-point-lt10 c = sym (place-front _ c.if-point-lt10.true)
+pub returns-in-0-to-9 : goal.returns-in-0-to-9
+returns-in-0-to-9 c = sym (place-front _ (omega arith))
 
-pub returns-then-point-lt70 : goal.returns-then-point-lt70
-returns-then-point-lt70 c = sym (place_inside _ c.if-point-lt10.false c.if-point-lt70.true)
+pub returns-in-10-to-69 : goal.returns-in-10-to-69
+returns-in-10-to-69 c = sym (place_inside _ (omega arith) (omega arith))
 
-pub returns : goal.returns
-returns c = sym (place-back _ c.if-point-lt70.false)
+pub returns-in_default : goal.returns-in_default
+returns-in_default c = sym (place-back _ (grind arith))

@@ -9,13 +9,9 @@ use Rattle.denial.proofs.build.Given as goal
 
 abbrev pub invariant-loop-s : goal.invariant-loop-s
 invariant-loop-s l =
-    (l.s ≤ l.k)
-    × (length l.out ≡ length l.initial.out)
-    × (l.at ≤ 176 + 179 * l.s)
+    (length l.out ≡ length l.initial.out)
+    × (l.at + 3 ≤ 179 * l.s)
     × (1 ≤ l.total)
-    × (l.total ≡ product (l.s + 1) (l.k - l.s) (lines_in l.rows 0 l.n))
-    × (lay l.at (chosen_from l.rows l.n (l.s + 1) (l.k - l.s) l.left) l.out ≡ lay l.initial.at (chosen_from l.rows l.n 1 l.k l.j) l.initial.out)
-    × (l.at + length (chosen_from l.rows l.n (l.s + 1) (l.k - l.s) l.left) ≡ l.initial.at + length (chosen_from l.rows l.n 1 l.k l.j))
-
-abbrev pub decreases-loop-s : goal.decreases-loop-s
-decreases-loop-s l = l.k - l.s
+    × (l.total ≡ product l.s (l.k + 1 - l.s) (lines_in l.rows 0 l.n))
+    × (lay l.at (chosen_from l.rows l.n l.s (l.k + 1 - l.s) l.left) l.out ≡ lay l.initial.at (chosen_from l.rows l.n 1 l.k l.j) l.initial.out)
+    × (l.at + length (chosen_from l.rows l.n l.s (l.k + 1 - l.s) l.left) ≡ l.initial.at + length (chosen_from l.rows l.n 1 l.k l.j))

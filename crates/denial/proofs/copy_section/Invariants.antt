@@ -8,7 +8,4 @@ use Rattle.denial.proofs.copy_section.Given as goal
 
 abbrev pub invariant-loop-i : goal.invariant-loop-i
 invariant-loop-i l =
-    (l.i ≤ l.n) × (l.at ≤ l.i) × (length l.out ≡ length l.initial.out) × (lay l.at (of_section l.section (lines_in l.rows l.i (l.n - l.i))) l.out ≡ lay 0 (of_section l.section (lines_in l.rows 0 l.n)) l.initial.out) × (l.at + length (of_section l.section (lines_in l.rows l.i (l.n - l.i))) ≡ length (of_section l.section (lines_in l.rows 0 l.n)))
-
-abbrev pub decreases-loop-i : goal.decreases-loop-i
-decreases-loop-i l = l.n - l.i
+    (l.at ≤ l.i) × (length l.out ≡ length l.initial.out) × (lay l.at (of_section l.section (lines_in l.rows l.i (l.n - l.i))) l.out ≡ lay 0 (of_section l.section (lines_in l.rows 0 l.n)) l.initial.out) × (l.at + length (of_section l.section (lines_in l.rows l.i (l.n - l.i))) ≡ length (of_section l.section (lines_in l.rows 0 l.n)))

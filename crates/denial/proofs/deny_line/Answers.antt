@@ -1,16 +1,12 @@
 -- `deny_line` meets its contract: one law to an arm, by the kind that the arm is for.
-use mathlib.Core.Path.{sym, ap, ◌∙◌, subst}
+use mathlib.Core.Path.{sym, ap, ◌∙◌}
 use mathlib.Core.List.{[], ◌∷◌}
-use Prim.Native.Nat.{ℕ, ◌<◌}
+use borrow.Author.Tests.{eq-eqb, ne_eqb}
 use Rattle.row.specs.declared.Line.{Line}
-use Rattle.sheet.proofs.Count.{weight_6}
 use Rattle.denial.proofs.Own.{own_2, own_3, own_6, own_7, own_8, own_10, own_11, own_12, own-other}
 use native.Mathlib.Omega.{arith}
 use borrow.Author.Rules.{rules}
 use Rattle.denial.proofs.deny_line.Goals as goal
-
-pub deny_before-requires : goal.deny_before-requires
-deny_before-requires c = subst (λ (w : ℕ). c.args.v < w) (sym (weight_6 _ _ _ c.in-6.is)) c.requires.0
 
 pub returns-in-2 : goal.returns-in-2
 returns-in-2 c =
@@ -21,8 +17,10 @@ returns-in-3 c =
     own_3 c.args.far c.args.line c.args.v c.requires.0 (search rules) c.in-3.is ∙ ap (λ (r : Line). r ∷ []) (sym c.row-in-3.ensures)
 
 pub returns-in-6 : goal.returns-in-6
-returns-in-6 c =
-    own_6 c.args.far c.args.line c.args.v c.requires.0 c.in-6.is ∙ ap (λ (r : Line). r ∷ []) (sym c.deny_before.ensures)
+returns-in-6 c = own_6 c.args.far c.args.line c.args.v c.requires.0 c.in-6.is ∙ ap (λ (r : Line). r ∷ []) (simp (eq-eqb _ _ c.if-v-eq0.true) (sym c.before-in-6.ensures))
+
+pub returns-in-6-2 : goal.returns-in-6-2
+returns-in-6-2 c = own_6 c.args.far c.args.line c.args.v c.requires.0 c.in-6.is ∙ ap (λ (r : Line). r ∷ []) (simp (ne_eqb _ _ c.if-v-eq0.false) (sym c.row-in-6-2.ensures))
 
 pub returns-in-7 : goal.returns-in-7
 returns-in-7 c =

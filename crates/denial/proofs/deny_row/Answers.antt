@@ -1,16 +1,8 @@
 -- `deny_row` meets its contract: the rows that are brought, and the own rows after them.
-use mathlib.Core.Path.{sym, subst}
-use Rattle.row.specs.declared.Line.{Line}
-use Rattle.introduction.specs.Bringing.{NoneBefore}
 use Rattle.introduction.proofs.Bringing.{brought-short}
 use Rattle.denial.proofs.Building.{row_counts, row-section, row_done}
 use native.Mathlib.Omega.{arith}
-use borrow.Author.Rules.{rules}
 use Rattle.denial.proofs.deny_row.Goals as goal
-
-pub bring-end-requires : goal.bring-end-requires
-bring-end-requires c =
-    (search rules, search rules, search rules, subst (λ (l : Line). NoneBefore c.args.rows.now l.section c.args.from) (sym c.line_at-line.ensures) c.requires.6)
 
 pub own_rows-requires : goal.own_rows-requires
 own_rows-requires c =
@@ -24,5 +16,8 @@ own_rows-requires c =
 
 pub returns : goal.returns
 returns c =
-    let a = c.args in let l = c.line_at-line in let u = c.mark_uses in let told = row_done a.rows.now a.n a.i a.v l.result l.ensures _ c.far_end.ensures a.at c.bring-end.result _ _ a.out.now _ _
-    u.ensures c.bring-end.ensures.ends c.bring-end.ensures.memory c.own_rows.ensures.ends c.own_rows.ensures.memory in record { ends = told.0; memory = told.1 }
+    let a = c.args in
+    let l = c.line_at-line in
+    let told = row_done a.rows.now a.n a.i a.v l.result l.ensures _ c.far_end.ensures a.at c.bring-end.result _ _ a.out.now _ _
+    c.mark_uses.ensures c.bring-end.ensures.ends c.bring-end.ensures.memory c.own_rows.ensures.ends c.own_rows.ensures.memory in
+    record { ends = told.0; memory = told.1 }

@@ -3,9 +3,6 @@ use Rattle.denial.proofs.Own.{done-one, free_own}
 use borrow.Author.Rules.{rules}
 use Rattle.denial.proofs.own_rows.Goals as goal
 
-pub deny_free-requires : goal.deny_free-requires
-deny_free-requires c = let p = c.requires in (p.1, p.2)
-
 pub returns-then-line-eq9 : goal.returns-then-line-eq9
 returns-then-line-eq9 c =
     let a = c.args in let told = free_own a.far a.line a.v a.at _ a.out.now _ (search rules) c.if-line-eq9.true c.requires.0 c.deny_free.ensures.ends c.deny_free.ensures.memory in record { ends = told.0; memory = told.1 }

@@ -3,17 +3,12 @@ use Rattle.std.proofs.Common.{arith, ◌-◌}
 use Rattle.introduction.proofs.Bringing.{bring_zero, bring_same, bring_adds, brought-short}
 use Rattle.introduction.proofs.+bring.Goals as goal
 
-pub returns-then-left-eq0-clause-ends : goal.returns-then-left-eq0-clause-ends
-returns-then-left-eq0-clause-ends t c =
+pub returns-then-left-eq0 : goal.returns-then-left-eq0
+returns-then-left-eq0 t c =
     let a = c.args in
     let w = c.last_wanted-left in
-    (bring_same a.rows.now a.section a.marks.now w.result a.i a.at a.out.now w.ensures.same.1 _ _ (bring_zero _ _ _ _ _ _ c.if-left-eq0.true)).0
-
-pub returns-then-left-eq0-clause-memory : goal.returns-then-left-eq0-clause-memory
-returns-then-left-eq0-clause-memory t c =
-    let a = c.args in
-    let w = c.last_wanted-left in
-    (bring_same a.rows.now a.section a.marks.now w.result a.i a.at a.out.now w.ensures.same.1 _ _ (bring_zero _ _ _ _ _ _ c.if-left-eq0.true)).1
+    let both = bring_same a.rows.now a.section a.marks.now w.result a.i a.at a.out.now w.ensures.same.1 _ _ (bring_zero _ _ _ _ _ _ c.if-left-eq0.true) in
+    record { ends = both.0; memory = both.1 }
 
 pub put_line-requires : goal.put_line-requires
 put_line-requires t c =
@@ -23,22 +18,14 @@ pub overflow_add-result : goal.overflow_add-result
 overflow_add-result t c =
     record { fits = omega (arith, c.requires, c.last_wanted-left.ensures.same.0, c.bring-end.ensures.ends, brought-short c.args.rows.now c.args.section (c.last_wanted-left.result - 1) c.mark_uses.new.marks) }
 
-pub returns-clause-ends : goal.returns-clause-ends
-returns-clause-ends t c =
+pub returns : goal.returns
+returns t c =
     let a = c.args in
     let w = c.last_wanted-left in
     let some = c.if-left-eq0.false in
     let b = c.bring-end in
-    (bring_same a.rows.now a.section a.marks.now w.result a.i a.at a.out.now w.ensures.same.1 _ _
-    (bring_adds a.rows.now a.section a.marks.now w.result a.at a.out.now some c.line_at-line.result c.line_at-line.ensures b.result c.mark_uses.new.marks _ _
-    (w.ensures.last (omega (arith, some))) c.mark_uses.ensures b.ensures.ends b.ensures.memory c.put_line.ensures)).0
-
-pub returns-clause-memory : goal.returns-clause-memory
-returns-clause-memory t c =
-    let a = c.args in
-    let w = c.last_wanted-left in
-    let some = c.if-left-eq0.false in
-    let b = c.bring-end in
-    (bring_same a.rows.now a.section a.marks.now w.result a.i a.at a.out.now w.ensures.same.1 _ _
-    (bring_adds a.rows.now a.section a.marks.now w.result a.at a.out.now some c.line_at-line.result c.line_at-line.ensures b.result c.mark_uses.new.marks _ _
-    (w.ensures.last (omega (arith, some))) c.mark_uses.ensures b.ensures.ends b.ensures.memory c.put_line.ensures)).1
+    let added =
+    bring_adds a.rows.now a.section a.marks.now w.result a.at a.out.now some c.line_at-line.result c.line_at-line.ensures b.result c.mark_uses.new.marks _ _
+    (w.ensures.last (omega (arith, some))) c.mark_uses.ensures b.ensures.ends b.ensures.memory c.put_line.ensures in
+    let both = bring_same a.rows.now a.section a.marks.now w.result a.i a.at a.out.now w.ensures.same.1 _ _ added in
+    record { ends = both.0; memory = both.1 }

@@ -1,22 +1,25 @@
--- `first_of` meets its contract: no row that was passed is of the section.
-use borrow.Author.Rules.{rules}
-use mathlib.Core.Path.{◌∙◌}
+-- `first_of` meets its contract: it finds the first row of the section.
+use mathlib.Core.Path.{◌≡◌, refl, sym, ap, ◌∙◌, subst}
+use native.Mathlib.Nat.{sub-zero}
 use native.Mathlib.Omega.{arith}
-use Rattle.introduction.proofs.Bringing.{none_more}
+use Prim.Native.Nat.{ℕ, ◌≤◌}
+use lib.Dec.{eqb}
+use Rattle.std.proofs.Common.{Option, Some, None, unwrap_or, rules, tests}
+use Rattle.std.specs.Option.{option_map}
+use Rattle.std.proofs.lemmas.Iterator.{YieldsList-from_range}
+use Rattle.std.proofs.lemmas.Iterator.Search.{find_from_yields_List}
+use Rattle.row.specs.Memory.{section_at}
+use Rattle.introduction.specs.Bringing.{NoneBefore}
+use Rattle.introduction.proofs.Bringing.{first-from}
 use Rattle.introduction.proofs.first_of.Goals as goal
 
-pub loop-i-init : goal.loop-i-init
-loop-i-init c = (search rules, λ k h e. omega (arith, h))
-
-pub returns-then-section_of-section : goal.returns-then-section_of-section
-returns-then-section_of-section c = c.loop-i.invariant
-
-pub loop-i-preserved : goal.loop-i-preserved
-loop-i-preserved c =
-    let a = c.args in
-    (search rules, none_more a.rows.now a.section c.loop-i.i c.loop-i.invariant.1 (λ e. c.if-section_of-section.false (c.section_of.ensures ∙ e)))
+unmapped : (r : Option ℕ) → option_map (λ x. x) r ≡ r
+unmapped None = refl
+unmapped (Some x) = refl
 
 pub returns : goal.returns
 returns c =
-    let l = c.loop-i in
-    (search rules, λ k h e. l.invariant.1 k (omega (arith, h, c.loop-i-test.false)) e)
+    let a = c.args in
+    let found = find_from_yields_List (λ i. eqb (section_at a.rows.now i) a.section) _ _ c.find.result c.find.ensures.ran (YieldsList-from_range 0 a.n a.n refl (sub-zero a.n)) (λ x b q k. search (rules, tests)) in
+    let result = c.unwrap_or.ensures ∙ ap (λ (r : Option ℕ). unwrap_or r a.n) (sym (unmapped c.find.result) ∙ found) in
+    subst (λ (u : ℕ). (u ≤ a.n) × NoneBefore a.rows.now a.section u) (sym result) (first-from a.rows.now a.section 0 a.n a.n (omega arith) (λ k h e. omega (arith, h)))

@@ -1,31 +1,23 @@
--- `line_part` meets its contract: by how the refusal lies to the numbers that name a line.
-use borrow.Author.Rules.{rules}
+-- `line_part` meets its contract: by whether the refusal is one of those that name a line.
+use mathlib.Core.Logic.{inl, inr}
 use mathlib.Core.Path.{◌∙◌}
-use Rattle.line.proofs.Showing.{part_low, part-high, part-line, line-ends}
+use native.Mathlib.Omega.{arith}
+use Prim.Native.Nat.{◌≤◌}
+use Rattle.refusal.specs.Refusal.{number}
+use Rattle.line.specs.Numbered.{is_log}
+use Rattle.line.proofs.Showing.{part_front, part-line}
 use Rattle.line.proofs.line_part.Goals as goal
+use Rattle.line.proofs.line_part.Goals.{Joined-then-asked-low}
 
-pub returns-then-refusal-low : goal.returns-then-refusal-low
-returns-then-refusal-low c =
+beside : (c : Joined-then-asked-low) → c.args.low ≤ number c.args.refusal → number c.args.refusal ≤ c.args.high → ⊥
+beside c l h = elim c.then-asked-low.either [ inl x ↦ omega (arith, x, l, c.number-asked.ensures) | inr x ↦ omega (arith, x, h, c.number-asked.ensures) ]
+
+pub returns-then-asked-low : goal.returns-then-asked-low
+returns-then-asked-low c =
     let a = c.args in
-    c.front_part.ensures ∙ part_low a.log a.first a.wide a.low a.high a.text.now a.refusal a.line c.if-refusal-low.true
-
-pub returns-then-high-refusal : goal.returns-then-high-refusal
-returns-then-high-refusal c =
-    let a = c.args in
-    c.front_part-then-high-refusal.ensures ∙ part-high a.log a.first a.wide a.low a.high a.text.now a.refusal a.line c.if-refusal-low.false c.if-high-refusal.true
-
-pub overflow_sub-from : goal.overflow_sub-from
-overflow_sub-from c = let low = (c.requires c.if-refusal-low.false c.if-high-refusal.false).low in search rules
-
-pub overflow_mul-from : goal.overflow_mul-from
-overflow_mul-from c =
-    let ends = line-ends _ _ _ _ (c.requires c.if-refusal-low.false c.if-high-refusal.false) in search rules
-
-pub overflow_add-from : goal.overflow_add-from
-overflow_add-from c =
-    let ends = line-ends _ _ _ _ (c.requires c.if-refusal-low.false c.if-high-refusal.false) in search rules
+    c.front_part.ensures ∙ part_front (is_log a.text) a.first a.wide a.low a.high a.bytes.now (number a.refusal) a.line (beside (goal.at.returns-then-asked-low c).Joined-then-asked-low)
 
 pub returns : goal.returns
 returns c =
     let a = c.args in
-    part-line a.log a.first a.wide a.low a.high a.text.now a.refusal a.line c.if-refusal-low.false c.if-high-refusal.false
+    part-line (is_log a.text) a.first a.wide a.low a.high a.bytes.now (number a.refusal) a.line (omega (arith, c.number-asked.ensures)) (omega (arith, c.number-asked.ensures))

@@ -6,5 +6,5 @@ use Rattle.links.proofs.onward.Goals as goal
 pub returns-then-member : goal.returns-then-member
 returns-then-member c = enters _ _ _ (sym c.member.ensures ∙ c.if-member.true)
 
-pub returns : goal.returns
-returns c = passes _ _ _ (sym c.member.ensures ∙ c.if-member.false)
+pub returns-else-member : goal.returns-else-member
+returns-else-member c = passes _ _ _ (sym c.member.ensures ∙ c.if-member.false)

@@ -8,19 +8,19 @@ use Rattle.pair.proofs.leading_rows.Goals as goal
 
 pub loop-j-init : goal.loop-j-init
 unfolding tags_of
-loop-j-init c = (search rules, rw sub-zero (omega arith))
+loop-j-init c = rw sub-zero (omega arith)
 
 pub returns-then-section_of-ne0 : goal.returns-then-section_of-ne0
 returns-then-section_of-ne0 c =
     let a = c.args in
-    omega (arith, lead_other a.rows.now a.count c.loop-j.j (search rules) c.section_of.result c.section_of.ensures c.if-section_of-ne0.true, c.loop-j.invariant.1)
+    omega (arith, lead_other a.rows.now a.count c.loop-j.j (search rules) c.section_of.result c.section_of.ensures c.if-section_of-ne0.true, c.loop-j.invariant)
 
 pub loop-j-preserved : goal.loop-j-preserved
 loop-j-preserved c =
     let a = c.args in
-    (search rules, omega (arith, lead_on a.rows.now a.count c.loop-j.j (search rules) c.section_of.result c.section_of.ensures (omega arith), c.loop-j.invariant.1))
+    omega (arith, lead_on a.rows.now a.count c.loop-j.j (search rules) c.section_of.result c.section_of.ensures (omega arith), c.loop-j.invariant)
 
 pub returns : goal.returns
 returns c =
     let a = c.args in
-    omega (arith, lead_end a.rows.now a.count c.loop-j.j c.loop-j-test.false, c.loop-j.invariant.1)
+    omega (arith, lead_end a.rows.now a.count c.loop-j.j c.loop-j-test.false, c.loop-j.invariant)

@@ -11,13 +11,13 @@ all-antecedent : (c : After-leading_rows) → let a = c.args in (k : ℕ) → Sh
     → c.leading_rows.result ≡ length (sheet_at a.rows.now a.count k).antecedent
 all-antecedent c k S = let a = c.args in c.leading_rows.ensures ∙ antecedent-count a.rows.now a.count k S
 
-pub prepare-requires : goal.prepare-requires
-prepare-requires c =
+pub prepare-plan-requires : goal.prepare-plan-requires
+prepare-plan-requires c =
     let a = c.args in
-    let k = c.requires.2.0 in
-    let S = c.requires.2.1 in
-    (antecedent-small a.rows.now a.count k S c.leading_rows.result (all-antecedent (goal.at.prepare-requires c).After-leading_rows k S), (rows-pattern a.rows.now a.count k S c.leading_rows.result (all-antecedent (goal.at.prepare-requires c).After-leading_rows k S)).few)
+    let k = c.requires.1.0 in
+    let S = c.requires.1.1 in
+    (antecedent-small a.rows.now a.count k S c.leading_rows.result (all-antecedent (goal.at.prepare-plan-requires c).After-leading_rows k S), (rows-pattern a.rows.now a.count k S c.leading_rows.result (all-antecedent (goal.at.prepare-plan-requires c).After-leading_rows k S)).few)
 
 pub returns : goal.returns
 returns c =
-    let a = c.args in record { held = c.draw_maps.ensures.held; same = c.draw_maps.ensures.same; planned = λ k S. antecedent-planned a.rows.now a.count k S c.prepare.new.plan (c.prepare.ensures.rows ∙ all-antecedent (goal.at.returns c).After-leading_rows k S) c.prepare.ensures.drawn }
+    let a = c.args in record { same = c.draw_maps.ensures.same; planned = λ k S. antecedent-planned a.rows.now a.count k S c.prepare-plan.result (c.prepare-plan.ensures.rows ∙ all-antecedent (goal.at.returns c).After-leading_rows k S) c.prepare-plan.ensures.drawn }

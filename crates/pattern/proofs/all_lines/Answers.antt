@@ -1,33 +1,14 @@
--- `all_lines` meets its contract: the positions from number j on are lines' exactly when all are.
-use native.Mathlib.Omega.{arith}
-use Rattle.pattern.proofs.Matching.{position_low, position_high, position_on, position_end}
-use mathlib.Core.Path.{refl, sym, ◌∙◌}
-use borrow.Author.Rules.{rules}
+-- `all_lines` meets its contract: it asks of each position what the definition asks.
+use Rattle.pattern.specs.Placing.{is_position}
+use Rattle.pattern.proofs.Matching.{all-listed}
+use Rattle.std.proofs.Common.{rules, tests}
+use Rattle.std.proofs.lemmas.Iterator.{YieldsList-from_slice}
+use Rattle.std.proofs.lemmas.Iterator.Search.{all_from_yields_List}
+use mathlib.Core.Path.{◌∙◌}
 use Rattle.pattern.proofs.all_lines.Goals as goal
 
-pub loop-j-init : goal.loop-j-init
-loop-j-init c = (search rules, refl)
-
-pub returns-then-x-lt1 : goal.returns-then-x-lt1
-returns-then-x-lt1 c =
-    let a = c.args in
-    let l = c.loop-j in
-    sym (position_low a.n a.positions.now a.point_count l.j c.requires c.at-x.result c.at-x.ensures c.loop-j-test.true c.if-x-lt1.true) ∙ l.invariant.1
-
-pub returns-then-n-x : goal.returns-then-n-x
-returns-then-n-x c =
-    let a = c.args in
-    let l = c.loop-j in
-    sym (position_high a.n a.positions.now a.point_count l.j c.requires c.at-x.result c.at-x.ensures c.loop-j-test.true c.if-x-lt1.false c.if-n-x.true) ∙ l.invariant.1
-
-pub loop-j-preserved : goal.loop-j-preserved
-loop-j-preserved c =
-    let a = c.args in
-    let l = c.loop-j in
-    (search rules, sym (position_on a.n a.positions.now a.point_count l.j c.requires c.at-x.result c.at-x.ensures c.loop-j-test.true c.if-x-lt1.false (omega arith)) ∙ l.invariant.1)
-
 pub returns : goal.returns
+unfolding is_position
 returns c =
-    let a = c.args in
-    let l = c.loop-j in
-    sym (position_end a.n a.positions.now a.point_count l.j c.requires c.loop-j-test.false) ∙ l.invariant.1
+    all_from_yields_List (is_position c.args.n) _ _ _ c.all.ensures.ran (YieldsList-from_slice c.args.positions.now cc) (λ x b q k. search (rules, tests))
+    ∙ all-listed (is_position c.args.n) c.args.positions.now

@@ -1,35 +1,19 @@
--- `all_met` meets its contract: the rows from number j on are all met exactly when all are.
-use Rattle.pattern.proofs.Matching.{met-on, met-not, met-end}
-use Rattle.row.specs.Memory.{rows_of}
-use Rattle.pattern.specs.Placing.{by}
+-- `all_met` meets its contract: it asks of each row what the definition asks.
+use Rattle.scenario.specs.Rows.{meets}
 use Rattle.run.specs.Held.{run_held}
+use Rattle.row.specs.Memory.{row_at, rows_of}
+use Rattle.pattern.specs.Placing.{by}
+use Rattle.pattern.proofs.Matching.{all-numbered}
+use Rattle.std.proofs.Common.{rules, tests}
+use Rattle.std.proofs.lemmas.Iterator.{YieldsList-from_range}
+use Rattle.std.proofs.lemmas.Iterator.Search.{all_from_yields_List}
 use native.Mathlib.Nat.{sub-zero}
-use mathlib.Core.Path.{refl, sym, ◌∙◌}
-use borrow.Author.Rules.{rules}
+use mathlib.Core.Path.{refl, ◌∙◌}
 use Rattle.pattern.proofs.all_met.Goals as goal
 
-pub loop-j-init : goal.loop-j-init
-unfolding rows_of
-loop-j-init c = (search rules, rw sub-zero refl)
-
-pub returns-then-not-meets : goal.returns-then-not-meets
-returns-then-not-meets c =
-    let a = c.args in
-    let l = c.loop-j in
-    met-not (run_held a.run.now) (by a.positions.now) a.rows.now a.count l.j c.loop-j-test.true
-    (sym c.meets.ensures ∙ c.if-not-meets.true) ∙ l.invariant.1
-
-pub loop-j-preserved : goal.loop-j-preserved
-loop-j-preserved c =
-    let a = c.args in
-    let l = c.loop-j in (
-      search rules,
-      met-on (run_held a.run.now) (by a.positions.now) a.rows.now a.count l.j c.loop-j-test.true
-          (sym c.meets.ensures ∙ c.if-not-meets.false) ∙ l.invariant.1,
-    )
-
 pub returns : goal.returns
+unfolding rows_of
 returns c =
-    let a = c.args in
-    let l = c.loop-j in
-    met-end (run_held a.run.now) (by a.positions.now) a.rows.now a.count l.j c.loop-j-test.false ∙ l.invariant.1
+    let met = meets (run_held c.args.run.now.words) (by c.args.positions.now) in
+    all_from_yields_List (λ j. met (row_at c.args.rows.now j)) _ _ c.all.result c.all.ensures.ran (YieldsList-from_range 0 c.args.count c.args.count refl (sub-zero c.args.count)) (λ x b q k. search (rules, tests))
+    ∙ all-numbered met (row_at c.args.rows.now) 0 c.args.count

@@ -1,8 +1,8 @@
--- What holds at each turn of the loops of `gather`, and what falls.
+-- What holds at each turn of the loop of `gather`.
 use Rattle.pattern.proofs.Points.{rest}
 use mathlib.Core.Path.{◌≡◌}
 use mathlib.Core.List.{◌++◌}
-use Prim.Native.Nat.{◌-◌, ◌≤◌}
+use Prim.Native.Nat.{◌≤◌}
 use lib.ListN.{length, take}
 use Rattle.scenario.specs.Rows.{points as points_of}
 use Rattle.row.specs.Memory.{rows_of}
@@ -10,7 +10,4 @@ use Rattle.pattern.proofs.gather.Given as goal
 
 abbrev pub invariant-loop-j : goal.invariant-loop-j
 invariant-loop-j l =
-    (l.j ≤ l.count) × (l.point_count ≤ length l.points) × (length l.points ≡ length l.initial.points) × (take l.point_count l.points ++ rest l.rows l.count l.j l.j ≡ points_of (rows_of l.rows l.count))
-
-abbrev pub decreases-loop-j : goal.decreases-loop-j
-decreases-loop-j l = l.count - l.j
+    (l.point_count ≤ length l.points) × (take l.point_count l.points ++ rest l.rows l.count l.j l.j ≡ points_of (rows_of l.rows l.count))

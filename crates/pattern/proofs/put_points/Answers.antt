@@ -1,24 +1,13 @@
--- `put_points` meets its contract: putting the points from number j on, over what was put so far, puts all.
-use Rattle.pattern.proofs.Placing.{puts-on, puts-end}
-use mathlib.Core.Path.{refl, sym, ◌∙◌}
-use borrow.Author.Rules.{rules}
+-- `put_points` meets its contract: putting the points that are left, over what was put so far, puts all.
+use Rattle.pattern.proofs.Placing.{puts-next, puts-end}
+use Rattle.std.proofs.lemmas.Slice.Zip.{either_empty_from_Zip}
+use mathlib.Core.Path.{sym, ◌∙◌}
 use Rattle.pattern.proofs.put_points.Goals as goal
 
-pub loop-j-init : goal.loop-j-init
-loop-j-init c = (search rules, refl, refl)
-
-pub loop-j-preserved : goal.loop-j-preserved
-loop-j-preserved c =
-    let a = c.args in
-    let l = c.loop-j in (
-      search rules,
-      search rules,
-      puts-on l.standing a.points.now a.positions.now a.point_count l.j c.requires.0 c.requires.1 c.store.new.m c.at.result c.at-in-loop-j.result c.loop-j-test.true
-          c.store.ensures c.at.ensures c.at-in-loop-j.ensures ∙ l.invariant.2,
-    )
+pub loop-p-preserved : goal.loop-p-preserved
+loop-p-preserved c =
+    puts-next c.loop-p.standing c.store.new.m _ _ _ _ c.in-Some.p.now c.in-Some.x.now c.store.ensures (c.in-Some.ensures.steps.0) (c.in-Some.ensures.steps.1)
+    ∙ c.loop-p.invariant
 
 pub returns : goal.returns
-returns c =
-    let a = c.args in
-    let l = c.loop-j in
-    sym (puts-end l.standing a.points.now a.positions.now a.point_count l.j c.requires.0 c.requires.1 c.loop-j-test.false) ∙ l.invariant.2
+returns c = sym (puts-end c.loop-p.standing _ _ (either_empty_from_Zip c.loop-p.p-iterator c.next.new.self _ c.in-None.is c.next.ensures.steps)) ∙ c.loop-p.invariant

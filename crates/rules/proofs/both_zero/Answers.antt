@@ -1,12 +1,12 @@
 -- `both_zero` meets its contract: the definition's tests one after another.
-use borrow.Author.Tests.{eq-eqb, ne_eqb}
+use borrow.Author.Rules.{rules}
 use Rattle.rules.specs.Rules.{both_zero}
 use Rattle.rules.proofs.both_zero.Goals as goal
 
-pub returns-then-a-ne0 : goal.returns-then-a-ne0
+pub returns-then-a-eq0 : goal.returns-then-a-eq0
 unfolding both_zero
-returns-then-a-ne0 c = simp (ne_eqb _ _ c.if-a-ne0.true)
+returns-then-a-eq0 c = search rules
 
-pub returns : goal.returns
+pub returns-else-a-eq0 : goal.returns-else-a-eq0
 unfolding both_zero
-returns c = simp (eq-eqb _ _ c.if-a-ne0.false)
+returns-else-a-eq0 c = search rules

@@ -1,12 +1,12 @@
 -- `due` meets its contract: the definition's tests one after another.
-use borrow.Author.Tests.{lt-ltb, le-ltb}
+use borrow.Author.Rules.{rules}
 use Rattle.rules.specs.Rules.{is_due}
 use Rattle.rules.proofs.due.Goals as goal
 
-pub returns-then-last-count : goal.returns-then-last-count
+pub returns-then-count-last : goal.returns-then-count-last
 unfolding is_due
-returns-then-last-count c = simp (le-ltb _ _ c.if-last-count.true)
+returns-then-count-last c = search rules
 
-pub returns : goal.returns
+pub returns-else-count-last : goal.returns-else-count-last
 unfolding is_due
-returns c = simp (lt-ltb _ _ c.if-last-count.false)
+returns-else-count-last c = search rules

@@ -1,14 +1,28 @@
--- `origin_fits` meets its contract: a law of Arms to an arm; kinds below 2 and above 5 do not come here.
-use Rattle.rules.proofs.Arms.{origin_2, origin_3, origin_4}
-use mathlib.Core.Path.{◌∙◌}
-use native.Mathlib.Omega.{arith}
+-- `origin_fits` meets its contract: the definition, arm by arm. Kinds below 2 and above 5 do not come here.
+use borrow.Author.Rules.{rules}
+use Rattle.rules.specs.Rules.{origin_fits, known_but, both_ordinary, ordinary_but}
 use Rattle.rules.proofs.origin_fits.Goals as goal
 
-pub returns-in-2 : goal.returns-in-2
-returns-in-2 c = c.known_but.ensures ∙ origin_2 _ _ _ _ _ _ c.in-2.is
+pub returns-then-q-ne-CLOSE : goal.returns-then-q-ne-CLOSE
+unfolding origin_fits known_but
+returns-then-q-ne-CLOSE c = search rules
 
-pub returns-in-3 : goal.returns-in-3
-returns-in-3 c = c.known_but-in-3.ensures ∙ origin_3 _ _ _ _ _ _ c.in-3.is
+pub returns-else-q-ne-CLOSE : goal.returns-else-q-ne-CLOSE
+unfolding origin_fits known_but
+returns-else-q-ne-CLOSE c = search rules
 
-pub returns-in-4 : goal.returns-in-4
-returns-in-4 c = c.two_ordinary.ensures ∙ origin_4 _ _ _ _ _ _ (omega arith)
+pub returns-then-q-ne-START : goal.returns-then-q-ne-START
+unfolding origin_fits known_but
+returns-then-q-ne-START c = search rules
+
+pub returns-else-q-ne-START : goal.returns-else-q-ne-START
+unfolding origin_fits known_but
+returns-else-q-ne-START c = search rules
+
+pub returns-then-ordinary_point : goal.returns-then-ordinary_point
+unfolding origin_fits both_ordinary ordinary_but
+returns-then-ordinary_point c = search rules
+
+pub returns-else-ordinary_point : goal.returns-else-ordinary_point
+unfolding origin_fits both_ordinary ordinary_but
+returns-else-ordinary_point c = search rules

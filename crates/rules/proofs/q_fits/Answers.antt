@@ -1,20 +1,32 @@
--- `q_fits` meets its contract: a law of Arms to an arm, by the bounds that the decision has passed.
-use Rattle.rules.proofs.Arms.{q-below, q_2, q_6, q_9, q-above}
-use mathlib.Core.Path.{◌∙◌}
-use native.Mathlib.Omega.{arith}
+-- `q_fits` meets its contract: the definition, arm by arm.
+use borrow.Author.Rules.{rules}
+use Rattle.rules.specs.Rules.{q_fits, known_but, ordinary_but}
 use Rattle.rules.proofs.q_fits.Goals as goal
 
 pub returns-in-2-to-5 : goal.returns-in-2-to-5
-returns-in-2-to-5 c = c.origin_fits.ensures ∙ q_2 _ _ _ _ _ _ _ (omega arith) (omega arith)
+unfolding q_fits
+returns-in-2-to-5 c = search rules
 
-pub returns-in-6-to-8 : goal.returns-in-6-to-8
-returns-in-6-to-8 c = c.ordinary_but.ensures ∙ q_6 _ _ _ _ _ _ _ (omega arith) (omega arith)
+pub returns-then-q-p : goal.returns-then-q-p
+unfolding q_fits ordinary_but
+returns-then-q-p c = search rules
 
-pub returns-in-9-to-11 : goal.returns-in-9-to-11
-returns-in-9-to-11 c = c.known_but.ensures ∙ q_9 _ _ _ _ _ _ _ (omega arith) (omega arith)
+pub returns-else-q-p : goal.returns-else-q-p
+unfolding q_fits ordinary_but
+returns-else-q-p c = search rules
+
+pub returns-then-q-p-2 : goal.returns-then-q-p-2
+unfolding q_fits known_but
+returns-then-q-p-2 c = search rules
+
+pub returns-else-q-p-2 : goal.returns-else-q-p-2
+unfolding q_fits known_but
+returns-else-q-p-2 c = search rules
 
 pub returns-in_default : goal.returns-in_default
-returns-in_default c = q-below _ _ _ _ _ _ _ (omega arith)
+unfolding q_fits
+returns-in_default c = search rules
 
 pub returns-in_default-2 : goal.returns-in_default-2
-returns-in_default-2 c = q-above _ _ _ _ _ _ _ (omega arith)
+unfolding q_fits
+returns-in_default-2 c = search rules

@@ -1,12 +1,12 @@
 -- `set_only` meets its contract: the definition's tests one after another.
-use borrow.Author.Tests.{eq-eqb, ne_eqb}
+use borrow.Author.Rules.{rules}
 use Rattle.rules.specs.Rules.{set_only}
 use Rattle.rules.proofs.set_only.Goals as goal
 
-pub returns-then-q-ne0 : goal.returns-then-q-ne0
+pub returns-then-q-eq0 : goal.returns-then-q-eq0
 unfolding set_only
-returns-then-q-ne0 c = simp (ne_eqb _ _ c.if-q-ne0.true)
+returns-then-q-eq0 c = search rules
 
-pub returns : goal.returns
+pub returns-else-q-eq0 : goal.returns-else-q-eq0
 unfolding set_only
-returns c = simp (eq-eqb _ _ c.if-q-ne0.false, c.both_zero.ensures)
+returns-else-q-eq0 c = search rules

@@ -1,8 +1,8 @@
 -- The word of two halves.
-use mathlib.Core.Path.{refl}
+use borrow.Author.Rules.{rules}
 use Rattle.scenario.specs.Rows.{set_of}
 use Rattle.run.proofs.enter.Goals as goal
 
 pub returns : goal.returns
 unfolding set_of
-returns c = refl
+returns c = search rules

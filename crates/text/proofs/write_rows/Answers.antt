@@ -1,8 +1,7 @@
 -- `write_rows` meets its contract: the lines from number i on, written after those so far, are all of them.
 use borrow.Author.Rules.{rules}
-use mathlib.Core.Path.{refl, sym, ap, ◌∙◌, subst}
+use mathlib.Core.Path.{sym, ap, ◌∙◌, subst}
 use Prim.Native.Nat.{◌+◌, ◌*◌}
-use native.Mathlib.Nat.{sub-zero}
 use Rattle.row.specs.declared.Line.{Line}
 use Rattle.sheet.specs.Text.{Fits, row_text}
 use Rattle.columns.specs.Ink.{inked}
@@ -18,21 +17,12 @@ write_row-requires c =
 pub loop-i-preserved : goal.loop-i-preserved
 loop-i-preserved c =
     let a = c.args in
-    let l = c.loop-i in (
-      search rules,
-      c.write_row.auto.buf ∙ l.invariant.1,
-      rows_on a.rows.now l.i a.n l.buf _ c.loop-i-test.true (search rules)
-          (c.write_row.ensures ∙ ap (λ (x : Line). inked (7 + 35 * l.i) (row_text x) l.buf) c.line_at.ensures) ∙ l.invariant.2,
-    )
+    let l = c.loop-i in
+    rows_on a.rows.now l.i a.n l.buf _ c.loop-i-test.true (search rules)
+    (c.write_row.ensures ∙ ap (λ (x : Line). inked (7 + 35 * l.i) (row_text x) l.buf) c.line_at.ensures) ∙ l.invariant
 
 pub returns : goal.returns
 returns c =
     let a = c.args in
     let l = c.loop-i in
-    rows_end a.rows.now l.i a.n l.buf c.loop-i-test.false ∙ l.invariant.2
-
-pub loop-i-init : goal.loop-i-init
-loop-i-init c = (search rules, refl, rw sub-zero refl)
-
-pub shape_of-buf : goal.shape_of-buf
-shape_of-buf c = c.loop-i.invariant.1
+    rows_end a.rows.now l.i a.n l.buf c.loop-i-test.false ∙ l.invariant

@@ -1,42 +1,41 @@
 -- The plan is drawn up for the antecedent's rows, and the run stays the same; then `first_violation` answers.
 use mathlib.Core.Path.{◌∙◌, ap}
-use mathlib.Core.List.{List}
-use Prim.Native.Nat.{ℕ}
 use native.Mathlib.Omega.{arith}
 use Rattle.scenario.specs.Rows.{Run}
 use Rattle.scenario.specs.Search.{check}
 use Rattle.runlog.proofs.Loading.{all-zeros}
 use Rattle.sheet.specs.Held.{sheet_at}
+use Rattle.plan.specs.declared.Plan.{Plan}
 use Rattle.pair.specs.Antecedent.{AntecedentPlanned}
 use Rattle.verdict.specs.Check.{verdict_of}
 use Rattle.verdict.proofs.Skipping.{section-small}
 use borrow.Author.Rules.{rules}
 use Rattle.verdict.proofs.check_rows.Goals as goal
-use Rattle.verdict.proofs.check_rows.Goals.{After-prepare}
+use Rattle.verdict.proofs.check_rows.Goals.{After-prepare-plan}
 
 -- The plan is drawn up.
-module _ (p : After-prepare) where
-  abbrev plan : List ℕ
-  plan = p.prepare.new.plan
+module _ (p : After-prepare-plan) where
+  abbrev plan : Plan
+  plan = p.prepare-plan.result
 
   planned : AntecedentPlanned p.args.rows.now p.args.count p.args.k plan
-  planned = p.prepare.ensures.planned p.args.k p.requires.2
+  planned = p.prepare-plan.ensures.planned p.args.k p.requires.1
 
 pub reach-requires : goal.reach-requires
 reach-requires c =
     let a = c.args in
-    let A = planned (goal.at.reach-requires c).After-prepare in
-    (c.requires.2.few, section-small a.rows.now a.count a.k c.requires.2, omega (arith, A.drawn.number, A.pattern.few), omega (arith, A.drawn.number, A.pattern.few, A.drawn.room), search rules, all-zeros 7)
+    let A = planned (goal.at.reach-requires c).After-prepare-plan in
+    (c.requires.1.few, section-small a.rows.now a.count a.k c.requires.1, omega (arith, A.drawn.number, A.pattern.few), omega (arith, A.drawn.number, A.pattern.few, A.drawn.room), search rules, all-zeros 7)
 
 pub first_violation-requires : goal.first_violation-requires
 first_violation-requires c =
-    (c.prepare.ensures.held, c.requires.2, planned (goal.at.first_violation-requires c).After-prepare, c.reach.ensures)
+    (c.requires.1, planned (goal.at.first_violation-requires c).After-prepare-plan, c.reach.ensures)
 
 pub returns : goal.returns
 returns c =
     let a = c.args in
     let sheet = sheet_at a.rows.now a.count a.k in
-    c.first_violation.ensures ∙ ap (λ (g : Run). verdict_of g sheet (check g sheet)) c.prepare.ensures.same
+    c.first_violation.ensures ∙ ap (λ (g : Run). verdict_of g sheet (check g sheet)) c.prepare-plan.ensures.same
 
-pub prepare-requires : goal.prepare-requires
-prepare-requires c = (c.requires.0, c.requires.1, (c.args.k, c.requires.2))
+pub prepare-plan-requires : goal.prepare-plan-requires
+prepare-plan-requires c = (c.requires.0, (c.args.k, c.requires.1))

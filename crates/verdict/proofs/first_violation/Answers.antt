@@ -10,6 +10,7 @@ use Rattle.run.specs.Words.{line_count}
 use Rattle.run.specs.Held.{Held, run_held}
 use Rattle.sheet.specs.Held.{SheetHeld}
 use Rattle.plan.specs.Tables.{count_of_points, points_in}
+use Rattle.plan.specs.declared.Plan.{Plan}
 use Rattle.placing.specs.Placing.{Standing}
 use Rattle.placement.proofs.Starting.{roomy}
 use Rattle.pair.specs.Antecedent.{AntecedentPlanned}
@@ -22,7 +23,7 @@ use Rattle.verdict.proofs.first_violation.Goals.{After-at_fault-met, Start}
 -- What is in memory
 module _ (s : Start) where
   abbrev held : List ℕ
-  held = s.args.run.now
+  held = s.args.run.now.words
 
   abbrev rows : List ℕ
   rows = s.args.rows.now
@@ -33,30 +34,30 @@ module _ (s : Start) where
   abbrev k : ℕ
   k = s.args.k
 
-  abbrev plan : List ℕ
+  abbrev plan : Plan
   plan = s.args.plan.now
 
   H : Held held
-  H = s.requires.0
+  H = s.args.run.now.held
 
   S : SheetHeld rows count k
-  S = s.requires.1
+  S = s.requires.0
 
   P : AntecedentPlanned rows count k plan
-  P = s.requires.2
+  P = s.requires.1
 
   abbrev reaches : List ℕ
   reaches = s.args.reaches.now
 
   X : Reaches rows count (take (count_of_points plan) (points_in plan)) reaches
-  X = s.requires.3
+  X = s.requires.2
 
   number : count_of_points plan ≤ length (points_in plan)
   number = roomy held H rows plan P.drawn P.pattern
 
 pub returns-then-not-first : goal.returns-then-not-first
 returns-then-not-first c =
-    c.unviolated.ensures ∙ none_at_all (held (goal.at.returns-then-not-first c).Start) (H (goal.at.returns-then-not-first c).Start) (rows (goal.at.returns-then-not-first c).Start) (count (goal.at.returns-then-not-first c).Start) (k (goal.at.returns-then-not-first c).Start) (S (goal.at.returns-then-not-first c).Start) (plan (goal.at.returns-then-not-first c).Start) (P (goal.at.returns-then-not-first c).Start) (sym (c.if-not-first.true) ∙ c.first.ensures.found)
+    none_at_all (held (goal.at.returns-then-not-first c).Start) (H (goal.at.returns-then-not-first c).Start) (rows (goal.at.returns-then-not-first c).Start) (count (goal.at.returns-then-not-first c).Start) (k (goal.at.returns-then-not-first c).Start) (S (goal.at.returns-then-not-first c).Start) (plan (goal.at.returns-then-not-first c).Start) (P (goal.at.returns-then-not-first c).Start) (sym (c.if-not-first.true) ∙ c.first.ensures.found)
 
 pub loop-positions-init : goal.loop-positions-init
 loop-positions-init c =
@@ -87,12 +88,11 @@ returns-then-met-eq0 c =
 
 pub next-requires : goal.next-requires
 next-requires c =
-    (H (goal.at.next-requires c).Start, (P (goal.at.next-requires c).Start).drawn.linked, still_there (goal.at.next-requires c).After-at_fault-met, omega (arith, (X (goal.at.next-requires c).Start).most c.at_fault-met.result, length-take-le (count_of_points (plan (goal.at.next-requires c).Start)) (points_in (plan (goal.at.next-requires c).Start)) (number (goal.at.next-requires c).Start)))
+    (still_there (goal.at.next-requires c).After-at_fault-met, omega (arith, (X (goal.at.next-requires c).Start).most c.at_fault-met.result, length-take-le (count_of_points (plan (goal.at.next-requires c).Start)) (points_in (plan (goal.at.next-requires c).Start)) (number (goal.at.next-requires c).Start)))
 
 pub returns-then-not-next : goal.returns-then-not-next
 returns-then-not-next c =
-    c.unviolated-then-not-next.ensures
-    ∙ no_other (held (goal.at.returns-then-not-next c).Start) (H (goal.at.returns-then-not-next c).Start) (rows (goal.at.returns-then-not-next c).Start) (count (goal.at.returns-then-not-next c).Start) (k (goal.at.returns-then-not-next c).Start) (S (goal.at.returns-then-not-next c).Start) (plan (goal.at.returns-then-not-next c).Start) (P (goal.at.returns-then-not-next c).Start) c.loop-positions.positions c.loop-positions.invariant (left (goal.at.returns-then-not-next c).After-at_fault-met) c.at_fault-met.ensures.kept
+    no_other (held (goal.at.returns-then-not-next c).Start) (H (goal.at.returns-then-not-next c).Start) (rows (goal.at.returns-then-not-next c).Start) (count (goal.at.returns-then-not-next c).Start) (k (goal.at.returns-then-not-next c).Start) (S (goal.at.returns-then-not-next c).Start) (plan (goal.at.returns-then-not-next c).Start) (P (goal.at.returns-then-not-next c).Start) c.loop-positions.positions c.loop-positions.invariant (left (goal.at.returns-then-not-next c).After-at_fault-met) c.at_fault-met.ensures.kept
     c.at_fault-met.result c.at_fault-met.ensures.met (λ z. omega (arith, z)) (reaches (goal.at.returns-then-not-next c).Start) (X (goal.at.returns-then-not-next c).Start) (sym (c.if-not-next.true) ∙ c.next.ensures.found)
 
 pub loop-positions-smaller : goal.loop-positions-smaller
@@ -107,11 +107,11 @@ loop-positions-preserved c =
 
 pub first-requires : goal.first-requires
 first-requires c =
-    (H (goal.at.first-requires c).Start, (P (goal.at.first-requires c).Start).drawn, (P (goal.at.first-requires c).Start).few, (P (goal.at.first-requires c).Start).pattern, refl)
+    ((P (goal.at.first-requires c).Start).drawn, (P (goal.at.first-requires c).Start).pattern, refl)
 
 pub at_fault-met-requires : goal.at_fault-met-requires
 at_fault-met-requires c =
-    let e = c.row_count-first.ensures in (H (goal.at.at_fault-met-requires c).Start, S (goal.at.at_fault-met-requires c).Start, c.loop-positions.invariant.stands.fixed.size, refl, omega (arith, e, (P (goal.at.at_fault-met-requires c).Start).within), λ i h. (P (goal.at.at_fault-met-requires c).Start).own i (omega (arith, e)))
+    let e = c.row_count-first.ensures in (S (goal.at.at_fault-met-requires c).Start, c.loop-positions.invariant.stands.fixed.size, refl, omega (arith, e, (P (goal.at.at_fault-met-requires c).Start).within), λ i h. (P (goal.at.at_fault-met-requires c).Start).own i (omega (arith, e)))
 
 pub offset_bounds-reaches-c : goal.offset_bounds-reaches-c
 offset_bounds-reaches-c c = record { fits = omega (arith, small (goal.at.offset_bounds-reaches-c c).After-at_fault-met) }

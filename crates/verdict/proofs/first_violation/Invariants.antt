@@ -12,8 +12,8 @@ use Rattle.verdict.proofs.Loop.{still, Turning}
 use Rattle.verdict.proofs.first_violation.Given as goal
 
 abbrev pub invariant-loop-positions : goal.invariant-loop-positions
-invariant-loop-positions l = Turning (run_held l.run) (sheet_at l.rows l.count l.k) (line_count l.run) l.rows l.plan l.positions
+invariant-loop-positions l = Turning (run_held l.run.words) (sheet_at l.rows l.count l.k) (line_count l.run.words) l.rows l.plan l.positions
 
 abbrev pub decreases-loop-positions : goal.decreases-loop-positions
 decreases-loop-positions l =
-    still (length (part (events_in l.run) (line_count l.run))) (length (points (rows_of l.rows (count_of_rows l.plan)))) (map (by l.positions) (points (rows_of l.rows (count_of_rows l.plan))))
+    still (length (part (events_in l.run.words) (line_count l.run.words))) (length (points (rows_of l.rows (count_of_rows l.plan)))) (map (by l.positions) (points (rows_of l.rows (count_of_rows l.plan))))

@@ -1,6 +1,6 @@
--- What holds at each turn of the loops of `reach`, and what falls.
+-- What holds at each turn of the loop of `reach`.
 use mathlib.Core.Path.{◌≡◌}
-use Prim.Native.Nat.{ℕ, ◌-◌, ◌≤◌, ◌<◌}
+use Prim.Native.Nat.{ℕ, ◌≤◌, ◌<◌}
 use lib.ListN.{length, get_or, take}
 use Rattle.row.specs.Memory.{section_at, row_at}
 use Rattle.turn.specs.Due.{due}
@@ -9,10 +9,6 @@ use Rattle.verdict.proofs.reach.Given as goal
 
 abbrev pub invariant-loop-j : goal.invariant-loop-j
 invariant-loop-j l =
-    (l.j ≤ l.count)
-    × (length l.reaches ≡ 7)
+    (length l.reaches ≡ 7)
     × ((s : ℕ) → get_or l.reaches s 0 ≤ length (take (count_of_points l.plan) (points_in l.plan)))
     × ((i : ℕ) → i < l.j → due (take (count_of_points l.plan) (points_in l.plan)) (row_at l.rows i) ≤ get_or l.reaches (section_at l.rows i) 0)
-
-abbrev pub decreases-loop-j : goal.decreases-loop-j
-decreases-loop-j l = l.count - l.j

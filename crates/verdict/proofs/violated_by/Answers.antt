@@ -7,4 +7,4 @@ use Rattle.verdict.proofs.violated_by.Goals as goal
 
 pub returns : goal.returns
 returns c =
-    let a = c.args in ap₂ (λ (p : ℕ) (at : List ℕ). violated_by p a.k at a.rows) c.point_count.ensures c.places_of-places.ensures
+    let a = c.args in ap₂ (λ (p : ℕ) (at : List ℕ). violated_by p a.k at a.rows) c.point_count.ensures c.places_of.ensures

@@ -1,0 +1,1 @@
+-- `store` meets its contract: the finding where nothing is refused, else what was there.
