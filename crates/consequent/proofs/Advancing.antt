@@ -10,26 +10,28 @@ use native.Mathlib.Omega.{arith}
 use lib.ListN.{get_or, set, replicate}
 use lib.Dec.{eqb}
 use borrow.Author.Tests.{eq-eqb, ne_eqb}
+use Rattle.std.specs.Prelude.{Option as Answer, Some, None, is_some as is_there}
 use Rattle.scenario.specs.Rows.{Row, point, next, last, earlier, later, before, apart, same, free, within, outside, event, Run, meets, introduced}
 use Rattle.scenario.specs.Walk.{lowest_above, highest_below}
 use Rattle.scenario.specs.Log.{has_at}
 use Rattle.scenario.specs.Fields.{decode, Tagged}
 use Rattle.scenario.specs.Reading.{All}
 use Rattle.run.specs.Words.{events_in, line_count}
-use Rattle.run.specs.Held.{Held, part, run_held, or_zero}
+use Rattle.run.specs.Held.{Held, part, run_held, position_of}
 use Rattle.row.specs.Memory.{section_at, row_at, listed, tag_at}
 use Rattle.pattern.specs.Placing.{by}
 use Rattle.run.proofs.Logs.{part_length}
-use Rattle.consequent.specs.Walk.{onto_in, stay_in, advance_in, is_some, or_keep, onward, fault_in, faulty, faults_in}
+use Rattle.run.proofs.Scans.{value-is, none≢some}
+use Rattle.consequent.specs.Walk.{onto_in, moved_to, stay_in, advance_in, is_some, or_keep, onward, fault_in, faulty, faults_in, consequent_of}
 
 -- what is put is what was found
-onto-met : (b : Bool) (E F : List ℕ) → is_some (cond b none (some F)) ≡ not b
-onto-met true E F = refl
-onto-met false E F = refl
+onto-met : (E : List ℕ) (p : ℕ) (o : Option ℕ) → is_there (position_of o) ≡ is_some (onto_in E p o)
+onto-met E p none = refl
+onto-met E p (some x) = refl
 
-onto-env : (b : Bool) (E F : List ℕ) → or_keep E (cond b none (some F)) ≡ cond b E F
-onto-env true E F = refl
-onto-env false E F = refl
+onto-env : (E : List ℕ) (p : ℕ) (o : Option ℕ) → moved_to E p (position_of o) ≡ or_keep E (onto_in E p o)
+onto-env E p none = refl
+onto-env E p (some x) = refl
 
 stay-met : (b : Bool) (E : List ℕ) → is_some (stay_in b E) ≡ b
 stay-met true E = refl
@@ -54,11 +56,11 @@ module _ (run E : List ℕ) (row : Row) (kind p q a b s y : ℕ) (H : Held run) 
   unfolding decode advance_in
   at_1 k = rw (← er, k)
 
-  at_2 : kind ≡ 2 → here ≡ onto_in E p (or_zero (lowest_above (has_at (part (events_in run) (line_count run)) s) y (line_count run - y)))
+  at_2 : kind ≡ 2 → here ≡ onto_in E p (lowest_above (has_at (part (events_in run) (line_count run)) s) y (line_count run - y))
   unfolding decode advance_in
   at_2 k = rw (← er, k, ey, part_length (events_in run) (line_count run) H.lines.room)
 
-  at_3 : kind ≡ 3 → here ≡ onto_in E p (or_zero (highest_below (has_at (part (events_in run) (line_count run)) s) y))
+  at_3 : kind ≡ 3 → here ≡ onto_in E p (highest_below (has_at (part (events_in run) (line_count run)) s) y)
   unfolding decode advance_in
   at_3 k = rw (← er, k, ey)
 
@@ -73,15 +75,15 @@ module _ (run E : List ℕ) (row : Row) (kind p q a b s y : ℕ) (H : Held run) 
   pub advanced_point : kind ≡ 1 → Advanced E here false E
   advanced_point k = told none false E (at_1 k) (refl, refl)
 
-  module _ (x : ℕ) (r : Bool) (E' : List ℕ) (ep : r ≡ not (eqb x 0)) (ee : E' ≡ cond (eqb x 0) E (set E p x)) where
-    put_gone : Advanced E (onto_in E p x) r E'
-    put_gone = (ep ∙ sym (onto-met (eqb x 0) E (set E p x)), ee ∙ sym (onto-env (eqb x 0) E (set E p x)))
+  module _ (x : Answer ℕ) (r : Bool) (E' : List ℕ) (ep : r ≡ is_there x) (ee : E' ≡ moved_to E p x) where
+    put_gone : (o : Option ℕ) → x ≡ position_of o → Advanced E (onto_in E p o) r E'
+    put_gone o f = (ep ∙ ap is_there f ∙ onto-met E p o, ee ∙ ap (moved_to E p) f ∙ onto-env E p o)
 
-    pub advanced_next : kind ≡ 2 → x ≡ or_zero (lowest_above (has_at (part (events_in run) (line_count run)) s) y (line_count run - y)) → Advanced E here r E'
-    advanced_next k f = told (onto_in E p x) r E' (at_2 k ∙ ap (onto_in E p) (sym f)) put_gone
+    pub advanced_next : kind ≡ 2 → x ≡ position_of (lowest_above (has_at (part (events_in run) (line_count run)) s) y (line_count run - y)) → Advanced E here r E'
+    advanced_next k f = told _ r E' (at_2 k) (put_gone _ f)
 
-    pub advanced_last : kind ≡ 3 → x ≡ or_zero (highest_below (has_at (part (events_in run) (line_count run)) s) y) → Advanced E here r E'
-    advanced_last k f = told (onto_in E p x) r E' (at_3 k ∙ ap (onto_in E p) (sym f)) put_gone
+    pub advanced_last : kind ≡ 3 → x ≡ position_of (highest_below (has_at (part (events_in run) (line_count run)) s) y) → Advanced E here r E'
+    advanced_last k f = told _ r E' (at_3 k) (put_gone _ f)
 
   module _ (z x : ℕ) (E' : List ℕ) (ez : z ≡ get_or E a 0) (ee : E' ≡ set E p x) where
     pub advanced_earlier : kind ≡ 4 → x ≡ min y z → Advanced E here true E'
@@ -119,9 +121,9 @@ module _ (run E : List ℕ) (row : Row) (kind p q a b s y : ℕ) (H : Held run) 
 
 -- One row further: what holds of the array, and wherever the row puts its own point, holds of what it leaves.
 module _ (run : Run) (E : List ℕ) (P : List ℕ → Type 0) (was : P E) where
-  onto_leaves : (b : Bool) (p x : ℕ) → P (set E p x) → P (or_keep E (cond b none (some (set E p x))))
-  onto_leaves true p x h = was
-  onto_leaves false p x h = h
+  onto_leaves : (p : ℕ) (o : Option ℕ) → ((x : ℕ) → P (set E p x)) → P (or_keep E (onto_in E p o))
+  onto_leaves p none h = was
+  onto_leaves p (some x) h = h x
 
   stay_leaves : (b : Bool) → P (or_keep E (stay_in b E))
   stay_leaves b = subst P (sym (stay-env b E)) was
@@ -129,8 +131,8 @@ module _ (run : Run) (E : List ℕ) (P : List ℕ → Type 0) (was : P E) where
   pub advance_leaves : (k : Row) → ((x : ℕ) → All (λ (p : ℕ). P (set E p x)) (introduced k)) → P (or_keep E (advance_in run E k))
   unfolding advance_in
   advance_leaves (point p s) h = was
-  advance_leaves (next p q s) h = let x = or_zero (lowest_above (run.has s) (get_or E q 0) (run.lines - get_or E q 0)) in onto_leaves (eqb x 0) p x (h x).0
-  advance_leaves (last p q s) h = let x = or_zero (highest_below (run.has s) (get_or E q 0)) in onto_leaves (eqb x 0) p x (h x).0
+  advance_leaves (next p q s) h = onto_leaves p (lowest_above (run.has s) (get_or E q 0) (run.lines - get_or E q 0)) (λ x. (h x).0)
+  advance_leaves (last p q s) h = onto_leaves p (highest_below (run.has s) (get_or E q 0)) (λ x. (h x).0)
   advance_leaves (earlier p q a) h = (h (min (get_or E q 0) (get_or E a 0))).0
   advance_leaves (later p q a) h = (h (max (get_or E q 0) (get_or E a 0))).0
   advance_leaves (before p q) h = stay_leaves (meets run (by E) (before p q))
@@ -140,6 +142,23 @@ module _ (run : Run) (E : List ℕ) (P : List ℕ → Type 0) (was : P E) where
   advance_leaves (within p q lo hi) h = stay_leaves (meets run (by E) (within p q lo hi))
   advance_leaves (outside p q lo hi) h = stay_leaves (meets run (by E) (outside p q lo hi))
   advance_leaves (event p s) h = stay_leaves (meets run (by E) (event p s))
+
+-- a consequent's number is not 0
+pub met_is : (c m : ℕ) → 0 < c → c ≡ m → Some c ≡ consequent_of m
+met_is c zero h e = absurd (omega arith)
+met_is c (suc m) h e = ap Some e
+
+pub met-none : (m : ℕ) (r : Answer ℕ) → r ≡ consequent_of m → r ≡ None → m ≡ 0
+met-none zero r e z = refl
+met-none (suc m) r e z = absurd (none≢some (sym z ∙ e))
+
+pub met-some : (m : ℕ) (r : Answer ℕ) → r ≡ consequent_of m → (c : ℕ) → r ≡ Some c → c ≡ m
+met-some zero r e c z = absurd (none≢some (sym e ∙ z))
+met-some (suc m) r e c z = value-is (sym z ∙ e)
+
+pub met-there : (m : ℕ) (r : Answer ℕ) → r ≡ consequent_of m → (c : ℕ) → r ≡ Some c → c ≡ 0 → ⊥
+met-there zero r e c z n = none≢some (sym e ∙ z)
+met-there (suc m) r e c z n = let s : suc m ≡ c = value-is (sym e ∙ z) in omega arith
 
 -- Rows
 

@@ -27,7 +27,6 @@ use Rattle.scenario.proofs.Reading.{sound}
 use Rattle.row.proofs.Memory.{listed_mem}
 use Rattle.row.specs.Memory.{section_at, row_at, tag_at, tags_of}
 use Rattle.pattern.specs.Placing.{by}
-use Rattle.run.specs.Held.{or_zero}
 use Rattle.consequent.specs.Walk.{onto_in, stay_in, advance_in, or_keep, onward, fault_in, Elsewhere, Kept}
 use Rattle.sheet.specs.Held.{sheet_at, SheetHeld}
 use Rattle.consequent.proofs.Advancing.{advance_leaves}
@@ -66,9 +65,9 @@ module _ (run : Run) (L : Laws run) (base : ℕ → Type 0) (r : ℕ) where
     unfolding points elem
     put k p x i h = (length-set E p x ∙ l, λ m b. placed p x h m (⊎_elim inl (λ t. inr (subst (λ (z : List ℕ). T (elem m (z ++ points ks))) i t)) b))
 
-    found : (k : Row) (p : ℕ) → introduced k ≡ p ∷ [] → p < 100 → (o : Option ℕ) → ((x : ℕ) → o ≡ some x → 1 ≤ x) → Alike (k ∷ ks) (onto_in E p (or_zero o)) (onto e p o)
-    found k p i h none c = tt
-    found k p i h (some x) c = rw (ne_eqb x 0 (λ z. omega (arith, c x refl))) (put k p x i h)
+    found : (k : Row) (p : ℕ) → introduced k ≡ p ∷ [] → p < 100 → (o : Option ℕ) → Alike (k ∷ ks) (onto_in E p o) (onto e p o)
+    found k p i h none = tt
+    found k p i h (some x) = put k p x i h
 
     stayed : (k : Row) → introduced k ≡ [] → (b c : Bool) → b ≡ c → Alike (k ∷ ks) (stay_in b E) (stay c e)
     unfolding points
@@ -83,24 +82,14 @@ module _ (run : Run) (L : Laws run) (base : ℕ → Type 0) (r : ℕ) where
         stayed k i (meets run (by E) k) (meets run e k)
         (meets-same run (by E) e k (all_map A (needs k) f.known) (subst (All (λ (m : ℕ). get_or E m 0 ≡ e m)) (sym i) tt))
 
-    up_line : (s a k x : ℕ) → (o : Option ℕ) → Up (run.has s) a k o → o ≡ some x → 1 ≤ x
-    up_line s a k x none u q = let z : ◌≡◌ {A = ℕ} 0 1 = cc in absurd (omega arith)
-    up_line s a k x (some y) u q = let z : y ≡ x = cc in omega (arith, u.0)
-
-    down_line : (s b x : ℕ) → (o : Option ℕ) → Down (run.has s) b o → o ≡ some x → 1 ≤ x
-    down_line s b x none u q = let z : ◌≡◌ {A = ℕ} 0 1 = cc in absurd (omega arith)
-    down_line s b x (some y) u q = let z : y ≡ x = cc in omega (arith, (L.line s y u.1).0)
-
     -- One row further.
     alike : (k : Row) → Fits base r ks k → All (λ (p : ℕ). p < 100) (introduced k) → Alike (k ∷ ks) (advance_in run E k) (advance run e k)
     unfolding advance_in advance
     alike (point p s) f h = tt
     alike (next p q s) f h =
-        rw (A q f.known.0) (found (next p q s) p refl h.0 (lowest_above (run.has s) (e q) (run.lines - e q))
-        (λ x. up_line s (e q) (run.lines - e q) x (lowest_above (run.has s) (e q) (run.lines - e q)) (scan_up (run.has s) (e q) (run.lines - e q))))
+        rw (A q f.known.0) (found (next p q s) p refl h.0 (lowest_above (run.has s) (e q) (run.lines - e q)))
     alike (last p q s) f h =
-        rw (A q f.known.0) (found (last p q s) p refl h.0 (highest_below (run.has s) (e q))
-        (λ x. down_line s (e q) x (highest_below (run.has s) (e q)) (scan_down (run.has s) (e q))))
+        rw (A q f.known.0) (found (last p q s) p refl h.0 (highest_below (run.has s) (e q)))
     alike (earlier p q a) f h = rw (A q f.known.0, A a f.known.1.0) (put (earlier p q a) p (min (e q) (e a)) refl h.0)
     alike (later p q a) f h = rw (A q f.known.0, A a f.known.1.0) (put (later p q a) p (max (e q) (e a)) refl h.0)
     alike (before p q) f h = tested (before p q) f refl

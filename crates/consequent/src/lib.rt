@@ -1,21 +1,21 @@
 // The walk over a consequent: a row further, and the first row that cannot be met.
 #![tactic(auto)]
 
-ghost use Rattle.std.specs.Prelude.{◌≡◌, not, cond, ℕ, ◌≤◌, ◌<◌, length, set, replicate, eqb};
+ghost use Rattle.std.specs.Prelude.{◌≡◌, ℕ, ◌≤◌, ◌<◌, length, replicate, None, is_some as is_there};
 ghost use Rattle.scenario.specs.Reading.{point_numbers};
 ghost use Rattle.run.specs.Held.{run_held};
 ghost use Rattle.row.specs.Memory.{section_at, row_at, tags_of};
-ghost use Rattle.consequent.specs.Walk.{advance_in, is_some, or_keep, faults_in, Kept};
+ghost use Rattle.consequent.specs.Walk.{moved_to, advance_in, is_some, or_keep, faults_in, consequent_of, Kept};
 ghost use Rattle.sheet.specs.Held.{SheetHeld};
 
-// Puts a position that was found as that of point p; 0 is none.
-fn put(positions: &mut [u32], p: u32, x: u32) -> bool
-    ensures found { result ≡ not (eqb x 0) }
-    ensures placed { positions.new ≡ cond (eqb x 0) positions.old (set positions.old p x) }
+// Puts a position that was found as that of point p.
+fn put(positions: &mut [u32], p: u32, x: Option<u32>) -> bool
+    ensures found { result ≡ is_there x }
+    ensures placed { positions.new ≡ moved_to positions.old p x }
 {
-    if x == 0 {
+    let Some(x) = x else {
         return false;
-    }
+    };
     row::store(positions, p as usize, x);
     true
 }
@@ -51,7 +51,7 @@ pub fn advance(
     }
 }
 
-// For each consequent the first row that cannot be met, over these positions, to `faults`, in which there are zeros, and 0; or the first consequent, from 1, all of whose rows can be
+// For each consequent the first row that cannot be met, over these positions, to `faults`, in which there are zeros, and none; or the first consequent, from 1, all of whose rows can be
 // met. The rows place their consequent's points among the positions: no other consequent uses them. The consequents' rows are those from `first` on, one consequent's after another's, so
 // that each is looked for behind where the one before it was left.
 pub fn at_fault(
@@ -62,10 +62,10 @@ pub fn at_fault(
     k: u32,
     positions: &mut [u32; pattern::POINT_NUMBERS],
     faults: &mut [u32; 6],
-) -> u32
+) -> Option<u32>
     requires { SheetHeld rows.now count k × (length positions.old ≡ point_numbers) × (faults.old ≡ replicate 6 0) × (first ≤ count) × ((i : ℕ) → i < first → section_at rows.now i ≡ 0) }
-    ensures met { result ≡ (faults_in (run_held run.now.words) (tags_of rows.now count) positions.old 0 k (replicate 6 0)).met }
-    ensures rows { result ≡ 0 → faults.new ≡ (faults_in (run_held run.now.words) (tags_of rows.now count) positions.old 0 k (replicate 6 0)).rows }
+    ensures met { result ≡ consequent_of (faults_in (run_held run.now.words) (tags_of rows.now count) positions.old 0 k (replicate 6 0)).met }
+    ensures rows { result ≡ None → faults.new ≡ (faults_in (run_held run.now.words) (tags_of rows.now count) positions.old 0 k (replicate 6 0)).rows }
     ensures kept { Kept (tags_of rows.now count) positions.old positions.new }
 {
     let mut j = first;
@@ -85,9 +85,9 @@ pub fn at_fault(
             j += 1;
         };
         if row == 0 {
-            return c + 1;
+            return Some(c + 1);
         }
         faults[c as usize] = row;
     }
-    0
+    None
 }

@@ -1,14 +1,14 @@
 -- The log in memory: what its words say of positions, and that its run has the laws that the theorems on rows ask.
 -- Assumes nothing.
 use mathlib.Core.Path.{◌≡◌, refl, sym, ◌∙◌, ap, subst}
-use mathlib.Core.Bool.{true, false, cond, and-false}
+use mathlib.Core.Bool.{Bool, true, false, cond, and-false}
 use mathlib.Core.List.{List, [], ◌∷◌}
 use Prim.Native.Nat.{ℕ, zero, suc, ◌+◌, ◌-◌, ◌≤◌, ◌<◌, min, max}
 use native.Mathlib.Omega.{arith}
 use lib.ListN.{length, get_or, drop, length-take, length-drop, get_or-eq_default}
 use lib.Seq.{get_or-take, get_or-drop}
 use lib.Dec.{T, ltb, eqb, not_T}
-use borrow.Author.Tests.{lt-ltb, le-ltb, le-leb, lt-leb, eq-eqb, ne_eqb}
+use borrow.Author.Tests.{lt-ltb, le-ltb, le-leb, lt-leb, eq-eqb, ne_eqb, not-true, not-false}
 use Rattle.scenario.specs.Rows.{between, clear, full_set, event_count}
 use Rattle.scenario.specs.Log.{Log, in_set, has_at, tick, gap, sure, near_at, run_of}
 use Rattle.scenario.proofs.Base.{is_true, is_false, get_or-all, Order, lower, level, upper, order}
@@ -17,7 +17,8 @@ use Rattle.scenario.proofs.Logs.{laws, in_set-full}
 use Rattle.scenario.proofs.Clock.{near-one, near_apart, without_overflow}
 use Rattle.scenario.specs.Walk.{lowest_above}
 use Rattle.run.specs.Words.{run_room, ticks_in, events_in, present, line_count}
-use Rattle.run.specs.Held.{Events, Held, part, log_at, bare, tick_of, near_of, log_held, run_held, or_zero}
+use Rattle.std.specs.Prelude.{Option as Answer, is_some, not}
+use Rattle.run.specs.Held.{Events, Held, part, log_at, bare, tick_of, near_of, log_held, run_held, position_of}
 use Rattle.scenario.specs.Clock.{Ascending}
 use Rattle.run.proofs.Words.{ticks-length, events-length}
 use Rattle.run.proofs.Scans.{Next, nowhere, here, next_of}
@@ -156,17 +157,17 @@ module _ (events : List ℕ) (n : ℕ) (E : Events events n) (s x y : ℕ) where
   clear_yes f = is_true (clear (bare events n) s x y) (clear-put (bare events n) s x y (λ z a t. let b = between-within z a in subst T (f z b.0 b.1) t))
 
   -- by the first after the lower one, up to the last line that is between
-  pub clear-by : (r top : ℕ) → top ≡ min (max x y - 1) n → r ≡ or_zero (lowest_above (has_at (part events n) s) (min x y) (top - min x y)) → eqb r 0 ≡ clear (bare events n) s x y
-  clear-by r top q e = go (next_of (has_at (part events n) s) (min x y) (top - min x y) r e)
+  pub clear-by : (r : Answer ℕ) (top : ℕ) → top ≡ min (max x y - 1) n → r ≡ position_of (lowest_above (has_at (part events n) s) (min x y) (top - min x y)) → (b : Bool) → is_some r ≡ not b → b ≡ clear (bare events n) s x y
+  clear-by r top q e b f = go (next_of (has_at (part events n) s) (min x y) (top - min x y) r e)
     where
-      go : Next (has_at (part events n) s) (min x y) (top - min x y) r → eqb r 0 ≡ clear (bare events n) s x y
-      go (nowhere z low) = eq-eqb r 0 z ∙ sym (clear_yes (λ v l h. side v l h (order n v)))
+      go : Next (has_at (part events n) s) (min x y) (top - min x y) r → b ≡ clear (bare events n) s x y
+      go (nowhere z low) = not-false b (sym f ∙ ap is_some z) ∙ sym (clear_yes (λ v l h. side v l h (order n v)))
         where
           side : (v : ℕ) → min x y < v → v < max x y → Order n v → has_at (part events n) s v ≡ false
           side v l h (lower o) = has-high events n E s v o
           side v l h (level o) = low v l (omega arith)
           side v l h (upper o) = low v l (omega arith)
-      go (here l h t low) = ne_eqb r 0 (λ z. omega arith) ∙ sym (clear_no r l (omega arith) t)
+      go (here v z l h t low) = not-true b (sym f ∙ ap is_some z) ∙ sym (clear_no v l (omega arith) t)
 
 -- Distances
 

@@ -1,6 +1,6 @@
 -- What a run in memory is: the log that its words are, and what is known of them. Inner vocabulary.
 -- Assumes nothing.
-use Rattle.std.specs.Prelude.{◌≡◌, List, Bool, false, cond, ℕ, ◌+◌, ◌≤◌, ◌<◌, ltb, eqb, length, get_or, take, drop}
+use Rattle.std.specs.Prelude.{◌≡◌, List, Bool, false, cond, ℕ, ◌+◌, ◌≤◌, ◌<◌, ltb, eqb, length, get_or, take, drop, Option as Answer, Some, None}
 use Rattle.std.proofs.Math.Option.{Option, none, some}
 use Rattle.scenario.specs.Rows.{Run, event_count}
 use Rattle.scenario.specs.Log.{most_lines, Log, has_at, gap, sure, run_of}
@@ -51,9 +51,10 @@ log_held run = log_at (ticks_in run) (events_in run) (line_count run)
 abbrev pub run_held : (run : List ℕ) → Run
 run_held run = run_at (ticks_in run) (events_in run) (line_count run)
 
-abbrev pub or_zero : Option ℕ → ℕ
-or_zero none = 0
-or_zero (some x) = x
+-- a position as the code answers it
+abbrev pub position_of : Option ℕ → Answer ℕ
+position_of none = None
+position_of (some x) = Some x
 
 -- Of the lines the first `count` have ticks below the limit, and no other has.
 pub record Before (run : List ℕ) (limit count : ℕ) : Type 0 where

@@ -8,8 +8,9 @@ use native.Mathlib.Omega.{arith}
 use Rattle.run.specs.Held.{run_held}
 use Rattle.run.proofs.Logs.{seen_laws}
 use Rattle.row.specs.Memory.{section_at, tags_of}
-use Rattle.consequent.specs.Walk.{Faults, fault_in, Kept}
-use Rattle.consequent.proofs.Advancing.{fault-end, skip, stuck, passed, faults-end, faults-none, faults-on}
+use Rattle.run.proofs.Scans.{none≢some}
+use Rattle.consequent.specs.Walk.{Faults, fault_in, consequent_of, Kept}
+use Rattle.consequent.proofs.Advancing.{met_is, fault-end, skip, stuck, passed, faults-end, faults-none, faults-on}
 use Rattle.consequent.proofs.Walk.{kept-all, kept_on, fault-same, row_keeps}
 use Rattle.consequent.proofs.Sections.{sections_rise, passed_over}
 use Rattle.consequent.proofs.at_fault.Goals as goal
@@ -85,7 +86,7 @@ rows-preserved c =
 
 pub returns-then-row-eq0 : goal.returns-then-row-eq0
 returns-then-row-eq0 c =
-    let e = sym (sym c.consequents.invariant.1 ∙ faults-none _ _ _ c.consequents.c _ _ (search rules) (sym (row_is (goal.at.returns-then-row-eq0 c).Joined-count-j) ∙ c.if-row-eq0.true)) in record { met = ap (λ (z : Faults). z.met) e; rows = λ z. absurd (omega (arith, z)); kept = env-is (goal.at.returns-then-row-eq0 c).Joined-count-j }
+    let e = sym (sym c.consequents.invariant.1 ∙ faults-none _ _ _ c.consequents.c _ _ (search rules) (sym (row_is (goal.at.returns-then-row-eq0 c).Joined-count-j) ∙ c.if-row-eq0.true)) in record { met = met_is _ _ (omega arith) (ap (λ (z : Faults). z.met) e); rows = λ z. absurd (none≢some (sym z)); kept = env-is (goal.at.returns-then-row-eq0 c).Joined-count-j }
 
 -- the row that cannot be met is of this consequent, so that none before it is of a later one
 pub consequents-preserved : goal.consequents-preserved
@@ -100,4 +101,4 @@ consequents-preserved c =
 
 pub returns : goal.returns
 returns c =
-    let e = sym (sym c.consequents.invariant.1 ∙ faults-end _ _ _ c.consequents.c _ _ c.consequents-test.false) in record { met = ap (λ (z : Faults). z.met) e; rows = λ z. ap (λ (f : Faults). f.rows) e; kept = c.consequents.invariant.0 }
+    let e = sym (sym c.consequents.invariant.1 ∙ faults-end _ _ _ c.consequents.c _ _ c.consequents-test.false) in record { met = ap (λ (z : Faults). consequent_of z.met) e; rows = λ z. ap (λ (f : Faults). f.rows) e; kept = c.consequents.invariant.0 }
