@@ -20,7 +20,7 @@ use Rattle.scenario.proofs.Patterns.{antiscenario-pattern}
 use Rattle.row.specs.Memory.{section_at, row_at, listed, rows_of, tag_at, tags_of}
 use Rattle.sheet.specs.Held.{sheet_at, SheetHeld}
 use Rattle.plan.specs.Tables.{count_of_rows, Drawn}
-use Rattle.plan.specs.declared.Plan.{Plan}
+use Rattle.plan.specs.declared.Tables.{Tables}
 use Rattle.pair.specs.Antecedent.{leading, AntecedentPlanned}
 
 -- The antecedent's rows stand first.
@@ -101,7 +101,7 @@ module _ (rows : List ℕ) (count k : ℕ) (S : SheetHeld rows count k) where
   rows-pattern a e = subst Pattern (sym (ap (rows_of rows) e ∙ antecedent_rows)) antecedent-pattern
 
   -- the plan for so many rows is the antecedent's
-  pub antecedent-planned : (plan : Plan) → count_of_rows plan ≡ length whole_sheet.antecedent → Drawn rows plan → AntecedentPlanned rows count k plan
+  pub antecedent-planned : (plan : Tables) → count_of_rows plan ≡ length whole_sheet.antecedent → Drawn rows plan → AntecedentPlanned rows count k plan
   unfolding tags_of
   antecedent-planned plan e D = record { antecedent_rows = ap (rows_of rows) e ∙ antecedent_rows; drawn = D; pattern = rows-pattern (count_of_rows plan) e; few = antecedent-small (count_of_rows plan) e; within = omega (arith, e, antecedent-below); own = λ i h. own i (omega (arith, e, antecedent-count)) }
     where

@@ -57,9 +57,9 @@ fn leading_rows(rows: &[u32; pattern::ROWS_ROOM], count: u32) -> u32
 pub fn prepare(run: &mut run::Run, rows: &[u32; pattern::ROWS_ROOM], count: u32) -> plan::Plan
     requires { Blank run.old.words × ((k : ℕ) × SheetHeld rows.now count k) }
     ensures same { run_held run.new.words ≡ run_held run.old.words }
-    ensures planned { (k : ℕ) → SheetHeld rows.now count k → AntecedentPlanned rows.now count k result }
+    ensures planned { (k : ℕ) → SheetHeld rows.now count k → AntecedentPlanned rows.now count k result.tables }
 {
     let plan = plan::Plan::prepare(rows, leading_rows(rows, count));
-    placement::draw_maps(run, plan.point_at(1));
+    placement::draw_maps(run, plan.tables.point_at(1));
     plan
 }

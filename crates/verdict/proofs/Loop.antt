@@ -21,7 +21,7 @@ use Rattle.run.specs.Held.{Held, run_held}
 use Rattle.row.specs.Memory.{rows_of, tags_of}
 use Rattle.pattern.specs.Placing.{by}
 use Rattle.plan.specs.Tables.{count_of_points, count_of_rows, points_in}
-use Rattle.plan.specs.declared.Plan.{Plan}
+use Rattle.plan.specs.declared.Tables.{Tables}
 use Rattle.placing.specs.Matching.{beyond, next_matching, is_found}
 use Rattle.placing.specs.Placing.{Standing}
 use Rattle.placing.proofs.Placing.{not_found}
@@ -39,11 +39,11 @@ unfoldable pub still : (n p : ℕ) (zs : List ℕ) → ℕ
 still n p zs = (n + 1) ^ p - place-number (n + 1) zs
 
 -- What is known of positions at a turn: a matching stands there, and no smaller placement is violating.
-pub record Turning (run : Run) (sheet : Sheet) (n : ℕ) (rows : List ℕ) (plan : Plan) (E : List ℕ) : Type 0 where
+pub record Turning (run : Run) (sheet : Sheet) (n : ℕ) (rows : List ℕ) (plan : Tables) (E : List ℕ) : Type 0 where
   pub stands : Standing run n rows plan E
   pub least : least run.lines (length (points (rows_of rows (count_of_rows plan)))) (λ ys. no_larger (map (by E) (points (rows_of rows (count_of_rows plan)))) ys && is_violating run sheet ys) ≡ check run sheet
 
-module _ (held : List ℕ) (H : Held held) (rows : List ℕ) (count k : ℕ) (S : SheetHeld rows count k) (plan : Plan) (P : AntecedentPlanned rows count k plan) where
+module _ (held : List ℕ) (H : Held held) (rows : List ℕ) (count k : ℕ) (S : SheetHeld rows count k) (plan : Tables) (P : AntecedentPlanned rows count k plan) where
   abbrev run : Run
   run = run_held held
 

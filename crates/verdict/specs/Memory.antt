@@ -5,7 +5,7 @@ use Rattle.row.specs.Memory.{section_at, row_at}
 use Rattle.pattern.specs.Placing.{by}
 use Rattle.turn.specs.Due.{due}
 use Rattle.plan.specs.Tables.{count_of_points, points_in}
-use Rattle.plan.specs.declared.Plan.{Plan}
+use Rattle.plan.specs.declared.Tables.{Tables}
 use Rattle.verdict.specs.Check.{Checked}
 
 -- section 0 and at most 6 others
@@ -19,7 +19,7 @@ pub record Reaches (rows : List ℕ) (count : ℕ) (ps reaches : List ℕ) : Typ
   pub used : (j : ℕ) → j < count → due ps (row_at rows j) ≤ get_or reaches (section_at rows j) 0
 
 -- the positions of the plan's points, in order, at the front of zeros
-abbrev pub places_in : (plan : Plan) (positions : List ℕ) → List ℕ
+abbrev pub places_in : (plan : Tables) (positions : List ℕ) → List ℕ
 places_in plan positions = map (by positions) (take (count_of_points plan) (points_in plan)) ++ drop (count_of_points plan) (replicate 4 0)
 
 -- an answer's numbers and arrays, where violated

@@ -20,4 +20,4 @@ prepare-plan-requires c =
 
 pub returns : goal.returns
 returns c =
-    let a = c.args in record { same = c.draw_maps.ensures.same; planned = λ k S. antecedent-planned a.rows.now a.count k S c.prepare-plan.result (c.prepare-plan.ensures.rows ∙ all-antecedent (goal.at.returns c).After-leading_rows k S) c.prepare-plan.ensures.drawn }
+    let a = c.args in record { same = c.draw_maps.ensures.same; planned = λ k S. antecedent-planned a.rows.now a.count k S c.prepare-plan.result.tables (c.prepare-plan.ensures.rows ∙ all-antecedent (goal.at.returns c).After-leading_rows k S) c.prepare-plan.ensures.drawn }

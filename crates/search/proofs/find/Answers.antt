@@ -15,7 +15,7 @@ use Rattle.search.proofs.find.Goals.{After-first}
 -- The first matching has been looked for.
 module _ (x : After-first) where
   abbrev answer : Answer
-  answer = smallest_matching (run_held x.args.run.now.words) (rows_of x.args.rows.now (count_of_rows x.args.plan.now))
+  answer = smallest_matching (run_held x.args.run.now.words) (rows_of x.args.rows.now (count_of_rows x.args.plan.now.tables))
 
 -- none: the places stay
 pub returns-then-not-first : goal.returns-then-not-first
@@ -25,11 +25,11 @@ returns-then-not-first c =
 pub copy_out-requires : goal.copy_out-requires
 copy_out-requires c =
     let a = c.args in
-    (omega (arith, c.requires.0.number, c.requires.1.few), roomy a.run.now.words a.run.now.held a.rows.now a.plan.now c.requires.0 c.requires.1, c.requires.2)
+    (omega (arith, c.requires.0.number, c.requires.1.few), roomy a.run.now.words a.run.now.held a.rows.now a.plan.now.tables c.requires.0 c.requires.1, c.requires.2)
 
 pub returns : goal.returns
 returns c =
-    let hit = c.if-not-first.false in let a = c.args in record { found = sym hit ∙ c.first.ensures.found; places = c.copy_out.ensures ∙ read_off a.rows.now a.plan.now c.requires.0 c.first.new.positions a.places.now (answer (goal.at.returns c).After-first) (c.first.ensures.stands hit).1 }
+    let hit = c.if-not-first.false in let a = c.args in record { found = sym hit ∙ c.first.ensures.found; places = c.copy_out.ensures ∙ read_off a.rows.now a.plan.now.tables c.requires.0 c.first.new.positions a.places.now (answer (goal.at.returns c).After-first) (c.first.ensures.stands hit).1 }
 
 pub first-requires : goal.first-requires
 first-requires c = (search rules, search rules, refl)

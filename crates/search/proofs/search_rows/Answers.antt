@@ -10,7 +10,7 @@ use Rattle.scenario.specs.Reading.{Pattern}
 use Rattle.run.specs.Held.{run_held}
 use Rattle.row.specs.Memory.{rows_of}
 use Rattle.plan.specs.Tables.{count_of_points, count_of_rows, Drawn}
-use Rattle.plan.specs.declared.Plan.{Plan}
+use Rattle.plan.specs.declared.Tables.{Tables}
 use Rattle.placing.specs.Matching.{is_found}
 use Rattle.search.specs.Searching.{filled}
 use Rattle.search.proofs.Searching.{too_few, enough}
@@ -19,8 +19,8 @@ use Rattle.search.proofs.search_rows.Goals.{After-draw_maps, After-prepare-plan}
 
 -- the plan, drawn up for all the rows
 module _ (p : After-prepare-plan) where
-  abbrev plan : Plan
-  plan = p.prepare-plan.result
+  abbrev plan : Tables
+  plan = p.prepare-plan.result.tables
 
   rows_are : count_of_rows plan ≡ p.args.count
   rows_are = p.prepare-plan.ensures.rows

@@ -5,7 +5,7 @@ use Rattle.scenario.specs.Rows.{Run}
 use Rattle.scenario.specs.Search.{check}
 use Rattle.runlog.proofs.Loading.{all-zeros}
 use Rattle.sheet.specs.Held.{sheet_at}
-use Rattle.plan.specs.declared.Plan.{Plan}
+use Rattle.plan.specs.declared.Tables.{Tables}
 use Rattle.pair.specs.Antecedent.{AntecedentPlanned}
 use Rattle.verdict.specs.Check.{verdict_of}
 use Rattle.verdict.proofs.Skipping.{section-small}
@@ -15,8 +15,8 @@ use Rattle.verdict.proofs.check_rows.Goals.{After-prepare-plan}
 
 -- The plan is drawn up.
 module _ (p : After-prepare-plan) where
-  abbrev plan : Plan
-  plan = p.prepare-plan.result
+  abbrev plan : Tables
+  plan = p.prepare-plan.result.tables
 
   planned : AntecedentPlanned p.args.rows.now p.args.count p.args.k plan
   planned = p.prepare-plan.ensures.planned p.args.k p.requires.1

@@ -10,7 +10,7 @@ use Rattle.run.specs.Words.{line_count}
 use Rattle.run.specs.Held.{Held, run_held}
 use Rattle.sheet.specs.Held.{SheetHeld}
 use Rattle.plan.specs.Tables.{count_of_points, points_in}
-use Rattle.plan.specs.declared.Plan.{Plan}
+use Rattle.plan.specs.declared.Tables.{Tables}
 use Rattle.placing.specs.Placing.{Standing}
 use Rattle.placement.proofs.Starting.{roomy}
 use Rattle.pair.specs.Antecedent.{AntecedentPlanned}
@@ -35,8 +35,8 @@ module _ (s : Start) where
   abbrev k : ℕ
   k = s.args.k
 
-  abbrev plan : Plan
-  plan = s.args.plan.now
+  abbrev plan : Tables
+  plan = s.args.plan.now.tables
 
   H : Held held
   H = s.args.run.now.held
