@@ -28,8 +28,8 @@ fn spaces(s: &[u8]) -> usize
     s.iter().position(|b| *b != SPACE).unwrap_or(s.len())
 }
 
-// The whole of s as a numeral; none where the bytes are not well formed. As many digits as LARGEST's fit 64 bits, and it is asked about at the end; more have a leading zero or are
-// over it.
+// The whole of s as a numeral; none where the bytes are not well formed. As many digits as LARGEST's fit 64 bits, and it is asked about at the end; fewer are below it, and more have a
+// leading zero or are over it.
 fn digits(s: &[u8]) -> Option<u32>
     ensures { result ≡ numeral s.now }
 {
@@ -44,7 +44,10 @@ fn digits(s: &[u8]) -> Option<u32>
         if *b < ZERO || NINE < *b {
             return None;
         }
-        v = v * 10 + u64::from(*b - ZERO);
+        v = v * 10 + (u64::from(*b) - u64::from(ZERO));
+    }
+    if s.len() < MOST_DIGITS {
+        return Some(v as u32);
     }
     if LARGEST < v {
         return None;

@@ -1,14 +1,13 @@
 -- Lines one after another: what is left to read from a line on is the whole.
 -- Assumes nothing.
 use mathlib.Core.Path.{◌≡◌, sym, ap, ◌∙◌}
-use mathlib.Core.List.{List, ◌++◌, append_assoc}
+use mathlib.Core.List.{List}
 use Prim.Native.Nat.{ℕ, suc, ◌+◌, ◌*◌, ◌-◌, ◌≤◌, ◌<◌}
 use native.Mathlib.Nat.{sub-zero}
 use native.Mathlib.Numerals.{add-one}
 use native.Mathlib.Omega.{arith}
-use lib.ListN.{length, take, drop, set, length-take, length-drop, length-append}
-use lib.Seq.{drop-drop, length-take-le, take-append_seam, drop-append_seam}
-use Rattle.std.proofs.lemmas.List.{take-append-drop}
+use lib.ListN.{length, take, drop, set, length-take, length-drop}
+use lib.Seq.{take_all, drop-drop}
 use Rattle.runlog.specs.Log.LineRead.{Refused, Line}
 use Rattle.scenario.specs.Rows.{set_of}
 use Rattle.runlog.specs.Log.{line_of, Taken, stop, more, on_line, line_bytes, lines_from, lay}
@@ -68,46 +67,22 @@ module _ (s : List ℕ) (n start : ℕ) (run₀ : List ℕ) where
     unfolding lines_from
     left-none h = let e : n - i ≡ 0 = omega arith in left-stop 0 0 (rw e)
 
--- The bytes of the lines from line i + 1 on, of n lines: behind them comes what follows the last.
-pub record Rest (s : List ℕ) (n i : ℕ) (rest : List ℕ) : Type 0 where
-  pub text : drop (28 + 15 * i) s ≡ rest ++ drop (28 + 15 * n) s
-  pub long : length rest + 15 * i ≡ 15 * n
+-- what is left of the text at line i
+abbrev pub From : (s : List ℕ) (i : ℕ) → List ℕ → Type 0
+From s i rest = rest ≡ drop (28 + 15 * i) s
 
-pub rest_first : (s : List ℕ) (n : ℕ) → 28 + 15 * n ≤ length s → (m : ℕ) → m ≡ 15 * n → Rest s n 0 (take m (drop 28 s))
-rest_first s n h m e =
-    rw e (record {
-      text = sym (take-append-drop (15 * n) (drop 28 s)) ∙ ap (λ (t : List ℕ). take (15 * n) (drop 28 s) ++ t) (drop-drop (15 * n) 28 s);
-      long = omega (arith, length-take-le (15 * n) (drop 28 s) (omega (arith, length-drop 28 s)));
-    })
+pub part-line : (s : List ℕ) (i : ℕ) (rest : List ℕ) → From s i rest → take 15 rest ≡ line_bytes s i
+unfolding line_bytes
+part-line s i rest e = ap (take 15) e
 
-pub rest_none : (s : List ℕ) (n i : ℕ) (rest : List ℕ) → Rest s n i rest → length rest < 15 → n ≤ i
-rest_none s n i rest R h = omega (arith, R.long)
+pub from_first : (s : List ℕ) → From s 0 (take (length s - 28) (drop 28 s))
+from_first s = take_all (length s - 28) (drop 28 s) (omega (arith, length-drop 28 s))
 
--- a line more: it stands in front of the rest
-module _ (s : List ℕ) (n i : ℕ) (rest line behind : List ℕ) (R : Rest s n i rest) (cut : rest ≡ line ++ behind) (whole : length line ≡ 15) where
-  cut_text : drop (28 + 15 * i) s ≡ line ++ (behind ++ drop (28 + 15 * n) s)
-  cut_text = R.text ∙ ap (λ (t : List ℕ). t ++ drop (28 + 15 * n) s) cut ∙ append_assoc line behind (drop (28 + 15 * n) s)
+pub from_next : (s : List ℕ) (i : ℕ) (rest : List ℕ) → From s i rest → From s (i + 1) (take (length rest - 15) (drop 15 rest))
+from_next s i rest e = let k : 28 + 15 * i + 15 ≡ 28 + 15 * (i + 1) = omega arith in take_all (length rest - 15) (drop 15 rest) (omega (arith, length-drop 15 rest)) ∙ ap (drop 15) e ∙ drop-drop 15 (28 + 15 * i) s ∙ ap (λ (j : ℕ). drop j s) k
 
-  lengths : length rest ≡ 15 + length behind
-  lengths = omega (arith, ap length cut, length-append line behind, whole)
-
-  pub line-left : i < n
-  line-left = omega (arith, R.long, lengths)
-
-  pub line-there : line ≡ line_bytes s i
-  unfolding line_bytes
-  line-there =
-      let seam = take-append_seam line (behind ++ drop (28 + 15 * n) s) in
-      sym (ap (take 15) cut_text ∙ ap (λ (k : ℕ). take k (line ++ (behind ++ drop (28 + 15 * n) s))) (sym whole) ∙ seam)
-
-  pub rest_next : Rest s n (i + 1) behind
-  rest_next =
-      let ys = behind ++ drop (28 + 15 * n) s in
-      let k : 28 + 15 * (i + 1) ≡ 28 + 15 * i + 15 = omega arith in
-      record {
-        text = ap (λ (j : ℕ). drop j s) k ∙ sym (drop-drop 15 (28 + 15 * i) s) ∙ ap (drop 15) cut_text ∙ ap (λ (j : ℕ). drop j (line ++ ys)) (sym whole) ∙ drop-append_seam line ys;
-        long = omega (arith, R.long, lengths);
-      }
+pub from-length : (s : List ℕ) (i n : ℕ) (rest : List ℕ) → From s i rest → i < n → 28 + 15 * n ≤ length s → 15 ≤ length rest
+from-length s i n rest e h l = omega (arith, ap length e, length-drop (28 + 15 * i) s)
 
 pub line-length : (s : List ℕ) (i n : ℕ) → i < n → 28 + 15 * n ≤ length s → length (line_bytes s i) ≡ 15
 unfolding line_bytes

@@ -137,9 +137,10 @@ fn read_lines(
     ensures words { words.new ≡ lay 1 (words_of (lines_from log.now 0 n start).ticks (lines_from log.now 0 n start).events) words.old }
 {
     let mut last = start;
-    let lines = &log[FIRST_BYTES..FIRST_BYTES + LINE_BYTES * n];
-    for (i, line) in lines.chunks_exact(LINE_BYTES).enumerate() {
-        match check_line(line, last) {
+    // What is left of the text goes on by a slice: by `chunks_exact` a log takes longer to read.
+    let mut rest = &log[FIRST_BYTES..];
+    for i in 0..n {
+        match check_line(&rest[..LINE_BYTES], last) {
             Ok(line) => {
                 run::enter(words, i + 1, line.tick, line.event);
                 last = line.tick;
@@ -151,6 +152,7 @@ fn read_lines(
                 });
             }
         }
+        rest = &rest[LINE_BYTES..];
     }
     Ok(last)
 }

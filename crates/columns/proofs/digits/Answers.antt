@@ -6,7 +6,7 @@ use native.Mathlib.Omega.{arith}
 use borrow.Author.Tests.{eqb-true, eqb-false}
 use Rattle.columns.proofs.Scan.{scan-low, scan-high, scan-on, scan-end, scan-end-over, digits_below, fewer_digits, led_empty, led_long, led_zero, led_one, led_more}
 use Rattle.columns.proofs.digits.Goals as goal
-use Rattle.columns.proofs.digits.Goals.{At-loop-b, then-is_empty-via-then-is_empty, then-is_empty-via-else-is_empty+then-s-gt-MOST_DIGITS}
+use Rattle.columns.proofs.digits.Goals.{At-loop-b, Then-s-lt-MOST_DIGITS, then-is_empty-via-then-is_empty, then-is_empty-via-else-is_empty+then-s-gt-MOST_DIGITS}
 use Rattle.columns.proofs.digits.Goals.{then-b-lt-ZERO-via-then-b-lt-ZERO, then-b-lt-ZERO-via-else-b-lt-ZERO+then-b-gt-NINE}
 
 -- so few digits are far below 64 bits
@@ -45,7 +45,18 @@ overflow_add-v c = let l = small (goal.at.overflow_add-v c).At-loop-b in search 
 pub loop-b-preserved : goal.loop-b-preserved
 loop-b-preserved c =
     let l = c.loop-b in
-    rw c.from.ensures (digits_below l.b-index l.v _ l.invariant.0 (search rules), l.invariant.1 ∙ scan-on _ l.b-index (search rules) l.v (search rules) (search rules))
+    rw c.from.ensures (rw c.from-in-loop-b.ensures (digits_below l.b-index l.v _ l.invariant.0 (search rules), l.invariant.1 ∙ scan-on _ l.b-index (search rules) l.v (search rules) (search rules)))
+
+-- fewer digits than the largest has are below it
+below : (c : Then-s-lt-MOST_DIGITS) → c.loop-b.v < 1000000000
+below c = fewer_digits 9 c.loop-b.b-index c.loop-b.v (search rules) c.loop-b.invariant.0
+
+pub overflow_cast-result : goal.overflow_cast-result
+overflow_cast-result c = let l = below (goal.at.overflow_cast-result c).Then-s-lt-MOST_DIGITS in search rules
+
+pub returns-then-s-lt-MOST_DIGITS : goal.returns-then-s-lt-MOST_DIGITS
+returns-then-s-lt-MOST_DIGITS c =
+    sym (c.loop-b.invariant.1 ∙ scan-end _ c.loop-b.b-index c.loop-b.v c.loop-b-test.false (omega (arith, below (goal.at.returns-then-s-lt-MOST_DIGITS c).Then-s-lt-MOST_DIGITS)))
 
 pub returns-then-v-gt-LARGEST : goal.returns-then-v-gt-LARGEST
 returns-then-v-gt-LARGEST c = sym (c.loop-b.invariant.1 ∙ scan-end-over _ c.loop-b.b-index c.loop-b.v c.loop-b-test.false c.if-v-gt-LARGEST.true)
