@@ -11,10 +11,11 @@ ghost use Rattle.antiscenario.specs.Judge.{judge_of};
 ghost use Rattle.antiscenario.specs.Write.{write_of, after_write};
 ghost use Rattle.search.specs.Searching.{search_of};
 ghost use Rattle.verdict.specs.Check.{check_of};
+ghost use Rattle.verdict.specs.Numbered.{numbered};
 ghost use Rattle.limit.specs.Limit.{limited_of};
 ghost use Rattle.ruling.specs.Ruling.{impossible_of};
 ghost use Rattle.line.specs.Showing.{part_of, shown_line};
-ghost use Rattle.findings.specs.Findings.{host_number, when_violated, fronted};
+ghost use Rattle.findings.specs.Findings.{by_number, host_number, when_violated, fronted};
 ghost use Rattle.bench.specs.Host.{limited_number, unless_refused, field_number, field_value, entry_number};
 ghost use Rattle.std.specs.Result.{result_unwrap_or};
 ghost use Rattle.refusal.specs.Refusal.{refused_with};
@@ -22,6 +23,7 @@ ghost use Rattle.line.specs.Numbered.{number_or_none};
 
 use limit::End;
 use refusal::Refusal;
+use verdict::Violation;
 
 // Document 02, A10: the check has looked at as many matchings as it may, and there is one more.
 const STOPPED: u32 = 102;
@@ -147,12 +149,22 @@ pub extern "C" fn satskhubo_check(
     ensures consequents { consequents.new ≡ when_violated (check_of sheet.now log.now) (check_of sheet.now log.now).consequents consequents.old }
 {
     findings::tell(
-        verdict::check(sheet, log),
+        by_number(verdict::check(sheet, log)),
         positions,
         points,
         rows,
         consequents,
     )
+}
+
+// A check's answer, its refusal by its number.
+fn by_number(checked: Result<Option<Violation>, Refusal>) -> Result<Option<Violation>, u32>
+    ensures { by_number result ≡ numbered checked }
+{
+    match checked {
+        Ok(verdict) => Ok(verdict),
+        Err(refusal) => Err(refusal.number()),
+    }
 }
 
 // The check with a limit: its findings as those of the check, the number of matchings looked at, and how many placements come after the last of them.
@@ -241,7 +253,7 @@ pub extern "C" fn satskhubo_line<'a>(
 {
     let part = line::shown_part(sheet, log);
     let shown = line::show_line(sheet, log);
-    line[..shown.len()].copy_from_slice(shown);
+    findings::copy_line(shown, line);
     *size = shown.len();
     number_of(part.refusal)
 }

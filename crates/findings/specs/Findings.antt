@@ -1,7 +1,14 @@
 -- What a host is told of a check: one number, and what its memory holds afterwards. What must be believed.
 -- Assumes nothing.
-use Rattle.std.specs.Prelude.{cond, List, ◌++◌, ℕ, take, drop, eqb}
-use Rattle.verdict.specs.Check.{Checked}
+use Rattle.std.specs.Prelude.{cond, List, ◌++◌, ℕ, take, drop, eqb, Option, Result, Ok, Err}
+use Rattle.verdict.specs.declared.Violation.{Violation}
+use Rattle.verdict.specs.Check.{Checked, blank}
+use Rattle.verdict.specs.Numbered.{told}
+
+-- a check's answer with its refusal's number
+abbrev pub by_number : Result (Option Violation) ℕ → Checked
+by_number (Ok verdict) = told verdict
+by_number (Err number) = blank number
 
 -- document 01: the refusal's, or else 0 for holds and 100 for violated
 unfoldable pub host_number : Checked → ℕ

@@ -1,33 +1,41 @@
 // A check's answer for a host: its number, and its findings in the caller's memory.
 #![tactic(auto)]
 
-ghost use Rattle.std.specs.Prelude.{◌≡◌, ◌≤◌};
-ghost use Rattle.verdict.specs.Numbered.{numbered};
-ghost use Rattle.findings.specs.Findings.{host_number, when_violated, fronted};
+ghost use Rattle.std.specs.Prelude.{◌≡◌, ◌≤◌, length};
+ghost use Rattle.findings.specs.Findings.{by_number, host_number, when_violated, fronted};
 
-use refusal::Refusal;
 use verdict::Violation;
 
 pub const VIOLATED: u32 = 100;
 
-// The number of a check's answer; its findings, where it is violated, go to the caller's memory.
+// All bytes of a line to the front of other bytes. A `for` that copies each: by `copy_from_slice` the archive would need `memmove` from outside.
+pub fn copy_line(from: &[u8], to: &mut [u8])
+    requires { length from.now ≤ length to.old }
+    ensures { to.new ≡ fronted (length from.now) from.now to.old }
+{
+    for (i, byte) in from.iter().enumerate() {
+        to[i] = *byte;
+    }
+}
+
+// The number of a check's answer, in which a refusal is its number as hosts know it; its findings, where it is violated, go to the caller's memory.
 pub fn tell(
-    checked: Result<Option<Violation>, Refusal>,
+    checked: Result<Option<Violation>, u32>,
     positions: &mut [u32; 4],
     points: &mut u32,
     rows: &mut [u32; 6],
     consequents: &mut u32,
 ) -> u32
-    requires { ((numbered checked).points ≤ 4) × ((numbered checked).consequents ≤ 6) }
-    ensures answer { result ≡ host_number (numbered checked) }
-    ensures positions { positions.new ≡ when_violated (numbered checked) (fronted (numbered checked).points (numbered checked).positions positions.old) positions.old }
-    ensures points { points.new ≡ when_violated (numbered checked) (numbered checked).points points.old }
-    ensures rows { rows.new ≡ when_violated (numbered checked) (fronted (numbered checked).consequents (numbered checked).rows rows.old) rows.old }
-    ensures consequents { consequents.new ≡ when_violated (numbered checked) (numbered checked).consequents consequents.old }
+    requires { ((by_number checked).points ≤ 4) × ((by_number checked).consequents ≤ 6) }
+    ensures answer { result ≡ host_number (by_number checked) }
+    ensures positions { positions.new ≡ when_violated (by_number checked) (fronted (by_number checked).points (by_number checked).positions positions.old) positions.old }
+    ensures points { points.new ≡ when_violated (by_number checked) (by_number checked).points points.old }
+    ensures rows { rows.new ≡ when_violated (by_number checked) (fronted (by_number checked).consequents (by_number checked).rows rows.old) rows.old }
+    ensures consequents { consequents.new ≡ when_violated (by_number checked) (by_number checked).consequents consequents.old }
 {
     let verdict = match checked {
         Ok(verdict) => verdict,
-        Err(refusal) => return refusal.number(),
+        Err(number) => return number,
     };
     let Some(violation) = verdict else {
         return 0;
