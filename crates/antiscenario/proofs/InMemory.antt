@@ -2,7 +2,7 @@
 -- Assumes nothing.
 use mathlib.Core.Path.{◌≡◌, refl, sym, ap, ap₂, ◌∙◌, subst}
 use mathlib.Core.List.{List, [], ◌∷◌, ◌++◌, map}
-use Prim.Native.Nat.{ℕ, suc, ◌-◌, ◌≤◌, ◌<◌}
+use Prim.Native.Nat.{ℕ, zero, suc, ◌-◌, ◌≤◌, ◌<◌}
 use native.Mathlib.Omega.{arith}
 use lib.ListN.{length, replicate, length-replicate}
 use borrow.Author.Tests.{le-leb, lt-leb}
@@ -44,6 +44,10 @@ number-low n number h = simp (lt-leb 1 number h)
 
 pub number-high : (n number : ℕ) → 1 ≤ number → n < number → 31 ≡ number_refusal n number
 number-high n number l h = simp (le-leb 1 number l, lt-leb number n h)
+
+pub number-out : (n number : ℕ) → (1 ≤ number → n < number) → 31 ≡ number_refusal n number
+number-out n zero h = number-low n zero (omega arith)
+number-out n (suc m) h = number-high n (suc m) (omega arith) (h (omega arith))
 
 pub number-taken : (n number : ℕ) → 1 ≤ number → number ≤ n → 0 ≡ number_refusal n number
 number-taken n number l h = simp (le-leb 1 number l, le-leb number n h)

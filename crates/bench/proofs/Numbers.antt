@@ -7,9 +7,8 @@ use Prim.Native.Nat.{ℕ}
 use lib.Dec.{eqb}
 use borrow.Author.Tests.{eq-eqb, ne_eqb}
 use Rattle.std.specs.Prelude.{Option, Some, None, Result, Ok, Err}
-use Rattle.std.specs.Result.{result_unwrap_or}
 use Rattle.refusal.specs.declared.Refusal.{Refusal}
-use Rattle.refusal.specs.Refusal.{number, refused_with}
+use Rattle.refusal.specs.Refusal.{number}
 use Rattle.refusal.proofs.Numbers.{is_refused}
 use Rattle.scenario.specs.Rows.{Run}
 use Rattle.scenario.specs.Sheet.{Sheet, Answer, nothing, found}
@@ -58,18 +57,23 @@ refused_unviolated s l n = go (eqb (sheet-answer s).refusal 0) (eqb (log-answer 
     go true false n = refl
     go true true n = judged_unviolated (run_in l) (sheet_in s) (check (run_in l) (sheet_in s)) n
 
--- Lent memory, of an operation whose answer is seen as a record with the refusal's number: what `store` leaves there is the field, or what was there
+-- Lent memory, of an operation whose answer is seen as a record with the refusal's number: where nothing is refused the field is left there, else what was there
 module _ {A R : Type 0} (view : Result A Refusal → R) (refusal : R → ℕ) (field : R → A) where
   pub record Seen : Type 0 where
     pub accepted : (v : A) → refusal (view (Ok v)) ≡ 0
     pub found : (v : A) → field (view (Ok v)) ≡ v
     pub refused : (r : Refusal) → refusal (view (Err r)) ≡ number r
 
-  pub stored : Seen → (answer : Result A Refusal) (old : A)
-      → (refused_with answer ≡ refusal (view answer)) × (result_unwrap_or answer old ≡ unless_refused (refusal (view answer)) (field (view answer)) old)
+  -- read off what is there at the end: n is told, and now is left
+  pub refusal-told : Seen → (answer : Result A Refusal) (n : ℕ) → ((v : A) → answer ≡ Ok v → n ≡ 0) → ((r : Refusal) → answer ≡ Err r → n ≡ number r) → n ≡ refusal (view answer)
+  refusal-told S (Ok v) n a b = a v refl ∙ sym (S.accepted v)
+  refusal-told S (Err r) n a b = b r refl ∙ sym (S.refused r)
+
+  pub left : Seen → (answer : Result A Refusal) (now old : A) → ((v : A) → answer ≡ Ok v → now ≡ v) → ((r : Refusal) → answer ≡ Err r → now ≡ old)
+      → now ≡ unless_refused (refusal (view answer)) (field (view answer)) old
   unfolding unless_refused
-  stored S (Ok v) old = (sym (S.accepted v), rw (eq-eqb _ 0 (S.accepted v)) (sym (S.found v)))
-  stored S (Err r) old = (sym (S.refused r), rw (ne_eqb _ 0 (λ z. is_refused r (sym (S.refused r) ∙ z))))
+  left S (Ok v) now old a b = a v refl ∙ rw (eq-eqb _ 0 (S.accepted v)) (sym (S.found v))
+  left S (Err r) now old a b = b r refl ∙ rw (ne_eqb _ 0 (λ z. is_refused r (sym (S.refused r) ∙ z)))
 
 -- Lent memory: r is the refusal that the program has, s the definition's
 

@@ -3,9 +3,12 @@ use borrow.Author.Rules.{rules}
 use native.Mathlib.Omega.{arith}
 use Rattle.sheet.specs.Held.{sheet_at}
 use Rattle.antiscenario.specs.Held.{AntiscenarioHeld}
-use Rattle.antiscenario.proofs.InMemory.{few_consequents, product_is, antiscenario-held}
+use Rattle.antiscenario.proofs.InMemory.{number-out, few_consequents, product_is, antiscenario-held}
 use Rattle.antiscenario.proofs.load.Goals as goal
 use Rattle.antiscenario.proofs.load.Goals.{After-build-n}
+
+pub returns-then-not-contains-clause-refusal : goal.returns-then-not-contains-clause-refusal
+returns-then-not-contains-clause-refusal c = number-out c.args.extent.count c.args.number (λ l. grind arith)
 
 pub build-n-requires : goal.build-n-requires
 build-n-requires c =

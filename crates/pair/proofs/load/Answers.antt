@@ -3,7 +3,12 @@ use mathlib.Core.Path.{◌≡◌, refl, sym, ap}
 use native.Mathlib.Omega.{arith}
 use Rattle.std.proofs.lemmas.Result.{err_from_is_err_and}
 use Rattle.refusal.proofs.Numbers.{sheet_refused}
+use Rattle.std.specs.Prelude.{Result as Answer}
+use Rattle.runlog.specs.declared.Extent.{Extent}
+use Rattle.runlog.specs.declared.Refused.{Refused}
+use Rattle.runlog.specs.Numbered.{numbered}
 use Rattle.runlog.specs.Log.{Answer as LogAnswer}
+use Rattle.runlog.specs.Log.{answer as log-answer}
 use Rattle.sheet.specs.Reading.{Answer as SheetAnswer}
 use Rattle.sheet.specs.Reading.{answer as sheet-answer}
 use Rattle.pair.specs.Pair.{PairHeld}
@@ -18,6 +23,11 @@ returns-in_err-extent-clause-refusal c =
 
 sheet_accepted : (c : In_ok-extent) → (sheet-answer c.args.sheet.now).refusal ≡ 0
 sheet_accepted c = ap (λ (z : SheetAnswer). z.refusal) (sym c.in_ok-extent.ensures.answers)
+
+-- nothing is refused where both are in memory: the number, read by arithmetic
+log_accepted : (c : In_ok-load_log) → 0 ≡ (log-answer c.args.log.now).refusal
+log_accepted c =
+    grind (arith, ap (λ (z : Answer Extent Refused). (numbered z).refusal) c.in_ok-load_log.was, ap (λ (z : LogAnswer). z.refusal) c.load_log.ensures.answers)
 
 pub returns-in_err-load_log-clause-refusal : goal.returns-in_err-load_log-clause-refusal
 returns-in_err-load_log-clause-refusal c =
@@ -35,7 +45,7 @@ both_held c =
 pub returns : goal.returns
 returns c =
     let s = sheet_accepted (goal.at.returns c).In_ok-extent in
-    let l = ap (λ (z : LogAnswer). z.refusal) c.in_ok-load_log.ensures.answers in
+    let l = log_accepted (goal.at.returns c).In_ok-load_log in
     record { refusal = log-refused c.args.sheet.now c.args.log.now s 0 l; memory = both_held (goal.at.returns c).In_ok-load_log }
 
 pub overflow_cast-result : goal.overflow_cast-result

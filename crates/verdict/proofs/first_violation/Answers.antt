@@ -1,10 +1,11 @@
 -- From matching to matching, the smallest violating placement at or after where the loop stands is the smallest of all. The laws are in Loop; here they are held against the code, place by place.
-use mathlib.Core.Path.{refl, sym, ap, ◌∙◌}
+use mathlib.Core.Path.{◌≡◌, refl, sym, ap, ◌∙◌}
 use mathlib.Core.List.{List}
 use Prim.Native.Nat.{ℕ, ◌≤◌, ◌<◌}
 use native.Mathlib.Omega.{arith}
 use lib.ListN.{length, take}
 use lib.Seq.{length-take-le}
+use Rattle.std.specs.Prelude.{Some, None}
 use Rattle.scenario.specs.Rows.{points}
 use Rattle.run.specs.Words.{line_count}
 use Rattle.run.specs.Held.{Held, run_held}
@@ -73,20 +74,24 @@ module _ (w : After-at_fault-met) where
   still_there : Standing (run_held (held w.before.before.before.before.before.before.before.before.before)) (line_count (held w.before.before.before.before.before.before.before.before.before)) (rows w.before.before.before.before.before.before.before.before.before) (plan w.before.before.before.before.before.before.before.before.before) left
   still_there = walked (held w.before.before.before.before.before.before.before.before.before) (H w.before.before.before.before.before.before.before.before.before) (rows w.before.before.before.before.before.before.before.before.before) (count w.before.before.before.before.before.before.before.before.before) (k w.before.before.before.before.before.before.before.before.before) (S w.before.before.before.before.before.before.before.before.before) (plan w.before.before.before.before.before.before.before.before.before) (P w.before.before.before.before.before.before.before.before.before) w.loop-c.positions w.loop-c.invariant left w.at_fault-met.ensures.kept
 
--- The consequent that extends
-module _ (w : In-Some) where
-  small : w.in-Some.c < 7
-  small = omega (arith, met-below (held w.before.before.before.before.before.before.before.before.before.before) (H w.before.before.before.before.before.before.before.before.before.before) (rows w.before.before.before.before.before.before.before.before.before.before) (count w.before.before.before.before.before.before.before.before.before.before) (k w.before.before.before.before.before.before.before.before.before.before) (S w.before.before.before.before.before.before.before.before.before.before) (plan w.before.before.before.before.before.before.before.before.before.before) (P w.before.before.before.before.before.before.before.before.before.before) w.loop-c.positions w.loop-c.invariant.stands, met-some _ _ w.at_fault-met.ensures.met w.in-Some.c w.in-Some.is)
-
 pub violated_by-requires : goal.violated_by-requires
 violated_by-requires c =
     (omega (arith, (P (goal.at.violated_by-requires c).Start).drawn.number, ap (λ z. length (points z)) (P (goal.at.violated_by-requires c).Start).antecedent_rows, (S (goal.at.violated_by-requires c).Start).read.few), number (goal.at.violated_by-requires c).Start)
 
 pub returns-in_default : goal.returns-in_default
 returns-in_default c =
+    let none : c.at_fault-met.result ≡ None = grind arith in
     c.violated_by.ensures
-    ∙ ap (violated_by (count_of_points (plan (goal.at.returns-in_default c).Start)) (k (goal.at.returns-in_default c).Start) (places_in (plan (goal.at.returns-in_default c).Start) (left (goal.at.returns-in_default c).After-at_fault-met))) (c.at_fault-met.ensures.rows c.in_default.is)
-    ∙ violated (held (goal.at.returns-in_default c).Start) (H (goal.at.returns-in_default c).Start) (rows (goal.at.returns-in_default c).Start) (count (goal.at.returns-in_default c).Start) (k (goal.at.returns-in_default c).Start) (S (goal.at.returns-in_default c).Start) (plan (goal.at.returns-in_default c).Start) (P (goal.at.returns-in_default c).Start) c.loop-c.positions c.loop-c.invariant (left (goal.at.returns-in_default c).After-at_fault-met) c.at_fault-met.ensures.kept (met-none _ _ c.at_fault-met.ensures.met c.in_default.is)
+    ∙ ap (violated_by (count_of_points (plan (goal.at.returns-in_default c).Start)) (k (goal.at.returns-in_default c).Start) (places_in (plan (goal.at.returns-in_default c).Start) (left (goal.at.returns-in_default c).After-at_fault-met))) (c.at_fault-met.ensures.rows none)
+    ∙ violated (held (goal.at.returns-in_default c).Start) (H (goal.at.returns-in_default c).Start) (rows (goal.at.returns-in_default c).Start) (count (goal.at.returns-in_default c).Start) (k (goal.at.returns-in_default c).Start) (S (goal.at.returns-in_default c).Start) (plan (goal.at.returns-in_default c).Start) (P (goal.at.returns-in_default c).Start) c.loop-c.positions c.loop-c.invariant (left (goal.at.returns-in_default c).After-at_fault-met) c.at_fault-met.ensures.kept (met-none _ _ c.at_fault-met.ensures.met none)
+
+-- The consequent that extends
+module _ (w : In-Some) where
+  is : w.at_fault-met.result ≡ Some w.in-Some.c
+  is = grind arith
+
+  small : w.in-Some.c < 7
+  small = omega (arith, met-below (held w.before.before.before.before.before.before.before.before.before.before) (H w.before.before.before.before.before.before.before.before.before.before) (rows w.before.before.before.before.before.before.before.before.before.before) (count w.before.before.before.before.before.before.before.before.before.before) (k w.before.before.before.before.before.before.before.before.before.before) (S w.before.before.before.before.before.before.before.before.before.before) (plan w.before.before.before.before.before.before.before.before.before.before) (P w.before.before.before.before.before.before.before.before.before.before) w.loop-c.positions w.loop-c.invariant.stands, met-some _ _ w.at_fault-met.ensures.met w.in-Some.c is)
 
 pub next-requires : goal.next-requires
 next-requires c =
@@ -95,17 +100,17 @@ next-requires c =
 pub returns-then-not-next : goal.returns-then-not-next
 returns-then-not-next c =
     no_other (held (goal.at.returns-then-not-next c).Start) (H (goal.at.returns-then-not-next c).Start) (rows (goal.at.returns-then-not-next c).Start) (count (goal.at.returns-then-not-next c).Start) (k (goal.at.returns-then-not-next c).Start) (S (goal.at.returns-then-not-next c).Start) (plan (goal.at.returns-then-not-next c).Start) (P (goal.at.returns-then-not-next c).Start) c.loop-c.positions c.loop-c.invariant (left (goal.at.returns-then-not-next c).After-at_fault-met) c.at_fault-met.ensures.kept
-    c.in-Some.c (met-some _ _ c.at_fault-met.ensures.met c.in-Some.c c.in-Some.is) (met-there _ _ c.at_fault-met.ensures.met c.in-Some.c c.in-Some.is) (reaches (goal.at.returns-then-not-next c).Start) (X (goal.at.returns-then-not-next c).Start) (sym (c.if-not-next.true) ∙ c.next.ensures.found)
+    c.in-Some.c (met-some _ _ c.at_fault-met.ensures.met c.in-Some.c (is (goal.at.returns-then-not-next c).In-Some)) (met-there _ _ c.at_fault-met.ensures.met c.in-Some.c (is (goal.at.returns-then-not-next c).In-Some)) (reaches (goal.at.returns-then-not-next c).Start) (X (goal.at.returns-then-not-next c).Start) (sym (c.if-not-next.true) ∙ c.next.ensures.found)
 
 pub loop-c-smaller : goal.loop-c-smaller
 loop-c-smaller c =
     falls (held (goal.at.loop-c-smaller c).Start) (H (goal.at.loop-c-smaller c).Start) (rows (goal.at.loop-c-smaller c).Start) (count (goal.at.loop-c-smaller c).Start) (k (goal.at.loop-c-smaller c).Start) (S (goal.at.loop-c-smaller c).Start) (plan (goal.at.loop-c-smaller c).Start) (P (goal.at.loop-c-smaller c).Start) c.loop-c.positions c.loop-c.invariant (left (goal.at.loop-c-smaller c).After-at_fault-met) c.at_fault-met.ensures.kept
-    c.in-Some.c (met-some _ _ c.at_fault-met.ensures.met c.in-Some.c c.in-Some.is) (met-there _ _ c.at_fault-met.ensures.met c.in-Some.c c.in-Some.is) (reaches (goal.at.loop-c-smaller c).Start) (X (goal.at.loop-c-smaller c).Start) c.next.new.positions (c.next.ensures.stands (c.if-not-next.false))
+    c.in-Some.c (met-some _ _ c.at_fault-met.ensures.met c.in-Some.c (is (goal.at.loop-c-smaller c).In-Some)) (met-there _ _ c.at_fault-met.ensures.met c.in-Some.c (is (goal.at.loop-c-smaller c).In-Some)) (reaches (goal.at.loop-c-smaller c).Start) (X (goal.at.loop-c-smaller c).Start) c.next.new.positions (c.next.ensures.stands (c.if-not-next.false))
 
 pub loop-c-preserved : goal.loop-c-preserved
 loop-c-preserved c =
     goes_on (held (goal.at.loop-c-preserved c).Start) (H (goal.at.loop-c-preserved c).Start) (rows (goal.at.loop-c-preserved c).Start) (count (goal.at.loop-c-preserved c).Start) (k (goal.at.loop-c-preserved c).Start) (S (goal.at.loop-c-preserved c).Start) (plan (goal.at.loop-c-preserved c).Start) (P (goal.at.loop-c-preserved c).Start) c.loop-c.positions c.loop-c.invariant (left (goal.at.loop-c-preserved c).After-at_fault-met) c.at_fault-met.ensures.kept
-    c.in-Some.c (met-some _ _ c.at_fault-met.ensures.met c.in-Some.c c.in-Some.is) (met-there _ _ c.at_fault-met.ensures.met c.in-Some.c c.in-Some.is) (reaches (goal.at.loop-c-preserved c).Start) (X (goal.at.loop-c-preserved c).Start) c.next.new.positions (c.next.ensures.stands (c.if-not-next.false))
+    c.in-Some.c (met-some _ _ c.at_fault-met.ensures.met c.in-Some.c (is (goal.at.loop-c-preserved c).In-Some)) (met-there _ _ c.at_fault-met.ensures.met c.in-Some.c (is (goal.at.loop-c-preserved c).In-Some)) (reaches (goal.at.loop-c-preserved c).Start) (X (goal.at.loop-c-preserved c).Start) c.next.new.positions (c.next.ensures.stands (c.if-not-next.false))
 
 pub first-requires : goal.first-requires
 first-requires c =
