@@ -15,7 +15,7 @@ c "3 while loops"                                        "^ *('[a-z]+: )?while "
 c "3 loops that add one to an index by hand"             '^ *(i|j|x|v|w|e|c|z|s) \+= 1;'
 c "5 contracts that ask for Held run"                    'requires.*Held run'
 c "5 contracts that ask for a linked plan"               'requires.*LinkedIn plan'
-c "6 run as a bare array of words in a signature"        'run: &(mut )?\[u64; (run::)?ROOM\]'
+c "6 run as a bare array of words in a signature"        '(run|words): &(mut )?\[u64; (run::)?ROOM\]'
 c "6 plan as a bare array of numbers in a signature"     'plan: &(mut )?\[u32; (plan::)?PLAN_ROOM\]'
 c "6 rows as bare numbers, six to a row, in a signature" '(rows|out): &(mut )?\[u32(\]|; (pattern::)?ROWS_ROOM\])'
 c "7 switches handed down"                               '(joining|upward): bool'
