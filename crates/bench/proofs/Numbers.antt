@@ -7,8 +7,9 @@ use Prim.Native.Nat.{ℕ}
 use lib.Dec.{eqb}
 use borrow.Author.Tests.{eq-eqb, ne_eqb}
 use Rattle.std.specs.Prelude.{Option, Some, None, Result, Ok, Err}
+use Rattle.std.specs.Result.{result_unwrap_or}
 use Rattle.refusal.specs.declared.Refusal.{Refusal}
-use Rattle.refusal.specs.Refusal.{number}
+use Rattle.refusal.specs.Refusal.{number, refused_with}
 use Rattle.refusal.proofs.Numbers.{is_refused}
 use Rattle.scenario.specs.Rows.{Run}
 use Rattle.scenario.specs.Sheet.{Sheet, Answer, nothing, found}
@@ -74,6 +75,13 @@ module _ {A R : Type 0} (view : Result A Refusal → R) (refusal : R → ℕ) (f
   unfolding unless_refused
   left S (Ok v) now old a b = a v refl ∙ rw (eq-eqb _ 0 (S.accepted v)) (sym (S.found v))
   left S (Err r) now old a b = b r refl ∙ rw (ne_eqb _ 0 (λ z. is_refused r (sym (S.refused r) ∙ z)))
+
+  -- of what an answer tells and leaves
+  pub stored : Seen → (answer : Result A Refusal) (old : A)
+      → (refused_with answer ≡ refusal (view answer)) × (result_unwrap_or answer old ≡ unless_refused (refusal (view answer)) (field (view answer)) old)
+  stored S answer old =
+      let kept = λ (a : Result A Refusal). result_unwrap_or a old in
+      (refusal-told S answer (refused_with answer) (λ v e. ap refused_with e) (λ r e. ap refused_with e), left S answer (kept answer) old (λ v e. ap kept e) (λ r e. ap kept e))
 
 -- Lent memory: r is the refusal that the program has, s the definition's
 
