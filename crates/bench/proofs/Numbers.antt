@@ -76,7 +76,7 @@ module _ {A R : Type 0} (view : Result A Refusal → R) (refusal : R → ℕ) (f
   left S (Ok v) now old a b = a v refl ∙ rw (eq-eqb _ 0 (S.accepted v)) (sym (S.found v))
   left S (Err r) now old a b = b r refl ∙ rw (ne_eqb _ 0 (λ z. is_refused r (sym (S.refused r) ∙ z)))
 
-  -- of what an answer tells and leaves
+  -- both at once: the number told is the answer's own, and what is left is its value, or what was there where it is refused
   pub stored : Seen → (answer : Result A Refusal) (old : A)
       → (refused_with answer ≡ refusal (view answer)) × (result_unwrap_or answer old ≡ unless_refused (refusal (view answer)) (field (view answer)) old)
   stored S answer old =
